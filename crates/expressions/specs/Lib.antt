@@ -1,0 +1,3 @@
+pub mod Evaluations
+pub mod Expressions
+pub mod Readings

@@ -1,0 +1,3 @@
+pub mod CellOrder
+pub mod CodeOrder
+pub mod Lex

@@ -1,0 +1,4 @@
+pub mod Modules
+pub mod Order
+pub mod Xorshift
+pub mod Tickets

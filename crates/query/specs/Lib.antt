@@ -1,0 +1,5 @@
+pub mod Drafts
+pub mod Lawful
+pub mod Queries
+pub mod Questions
+pub mod Rows
