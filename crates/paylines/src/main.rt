@@ -1,6 +1,7 @@
 // Overtime of a small day: rows are accepted or refused, and the nested loops answer the query.
 mod day;
 mod overtime;
+mod probes;
 
 use cells::rows::Row;
 use cells::types::Cell;

@@ -13,7 +13,7 @@ use query::types::Test;
 use std::alloc::Global;
 
 // Table 0 is the punches: a crew's code, the minute it came and the minute it left. Table 1 is the crews: a code and a size.
-pub fn draft(heap: Global) -> Result<Draft, Fault> {
+pub(crate) fn draft(heap: Global) -> Result<Draft, Fault> {
     let mut punch = Heading::new(Kind::Code);
     punch.push(Kind::Number)?;
     punch.push(Kind::Number)?;
@@ -47,7 +47,7 @@ pub fn draft(heap: Global) -> Result<Draft, Fault> {
 }
 
 // What a table is called.
-pub fn name_of(table: usize) -> &'static str {
+pub(crate) fn name_of(table: usize) -> &'static str {
     match table {
         0 => "punch",
         1 => "crew",
@@ -56,7 +56,7 @@ pub fn name_of(table: usize) -> &'static str {
 }
 
 // The kind of the column after `before` others; a number where there is none.
-pub fn kind_of(draft: &Draft, table: usize, before: usize) -> Kind {
+pub(crate) fn kind_of(draft: &Draft, table: usize, before: usize) -> Kind {
     match draft.headings().get(table) {
         Some(heading) => match heading.columns().get(before) {
             Some(kind) => *kind,

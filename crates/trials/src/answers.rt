@@ -25,7 +25,7 @@ fn five(letter: u8) -> Row {
 }
 
 // Two equal rows in each of two joined tables.
-pub fn twice_two(heap: Global) -> Result<Vec<u8>, Fault> {
+pub(crate) fn twice_two(heap: Global) -> Result<Vec<u8>, Fault> {
     let mut draft = star(heap, 2)?;
     draft.show_value(
         &[

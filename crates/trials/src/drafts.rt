@@ -47,7 +47,7 @@ fn refusal_of(result: Result<(), Refusal>) -> u8 {
     }
 }
 
-pub fn show_tables(rt: &LibcRuntime, heap: Global) -> Result<(), Fault> {
+pub(crate) fn show_tables(rt: &LibcRuntime, heap: Global) -> Result<(), Fault> {
     let heading = pair()?;
     let seventh = refusal_of(star(heap, 6)?.add_table(heading, NUMBER, 1));
     let missing = refusal_of(star(heap, 1)?.add_table(heading, NUMBER, 3));
@@ -80,7 +80,7 @@ fn eleventh_join(heap: Global) -> Result<u8, Fault> {
     Ok(refusal_of(draft.add_join(again)))
 }
 
-pub fn show_joins(rt: &LibcRuntime, heap: Global) -> Result<(), Fault> {
+pub(crate) fn show_joins(rt: &LibcRuntime, heap: Global) -> Result<(), Fault> {
     let eleventh = eleventh_join(heap)?;
     let missing = refusal_of(star(heap, 2)?.add_join(Join {
         left: NUMBER,
@@ -115,7 +115,7 @@ fn ninth_filter(heap: Global) -> Result<u8, Fault> {
     Ok(number_of(draft.add_filter(Test::AtMost, &[Item::Column(NUMBER)], &[Item::Number(9)])))
 }
 
-pub fn show_filters(rt: &LibcRuntime, heap: Global) -> Result<(), Fault> {
+pub(crate) fn show_filters(rt: &LibcRuntime, heap: Global) -> Result<(), Fault> {
     let ninth = ninth_filter(heap)?;
     let one = [Item::Number(1)];
     let lacking = number_of(star(heap, 1)?.add_filter(
@@ -138,7 +138,7 @@ fn seventh_shown(heap: Global) -> Result<u8, Fault> {
     Ok(number_of(draft.show_value(&[Item::Number(1)])))
 }
 
-pub fn show_shown(rt: &LibcRuntime, heap: Global) -> Result<(), Fault> {
+pub(crate) fn show_shown(rt: &LibcRuntime, heap: Global) -> Result<(), Fault> {
     let seventh = seventh_shown(heap)?;
     let large = number_of(star(heap, 1)?.show_value(&[Item::Number(1_000_000_000_000)]));
     let missing = number_of(star(heap, 1)?.show_code(NONE));
@@ -155,7 +155,7 @@ fn accepts(heap: Global, table: usize, cells: &[Cell]) -> Result<u8, Fault> {
     }
 }
 
-pub fn show_rows(rt: &LibcRuntime, heap: Global) -> Result<(), Fault> {
+pub(crate) fn show_rows(rt: &LibcRuntime, heap: Global) -> Result<(), Fault> {
     let letter = Cell::Code(Code {
         bytes: [b'A', 0, 0, 0, 0, 0, 0, 0, 0, 0, 0, 0],
         len: 1,
