@@ -1,7 +1,10 @@
 // Overtime of a small day: rows are accepted or refused, and the nested loops answer the query.
 mod day;
+mod draws;
+mod memory;
 mod overtime;
 mod probes;
+mod through;
 
 use cells::rows::Row;
 use cells::types::Cell;
@@ -10,6 +13,7 @@ use faults::Fault;
 use faults::FaultFromAlloc;
 use faults::FaultFromIo;
 use faults::FaultFromRefused;
+use hash_store::store::calls::HashStoreStore;
 use query::drafts::Draft;
 use std::alloc::AllocError;
 use std::alloc::Global;
@@ -78,6 +82,15 @@ fn run(rt: &LibcRuntime) -> Result<(), Fault> {
     println!(rt, "The pay lines, by nested loops:")?;
     let lines = nested_loops::answer(heap, &draft, &tables)?;
     rt.stdout().write_all(&lines)?;
+    show_stores(rt, &draft, &tables, &lines)?;
+    draws::show(rt, 1)
+}
+
+fn show_stores(rt: &LibcRuntime, draft: &Draft, tables: &[Vec<Row>], lines: &[u8]) -> Result<(), Fault> {
+    let heap = rt.alloc();
+    println!(rt, "Once more through each store:")?;
+    through::show(rt, "hash", draft, tables, lines, memory::hash(heap)?)?;
+    through::show_cached(rt, "hash, cached", draft, tables, lines, memory::hash(heap)?)?;
     Ok(())
 }
 

@@ -8,8 +8,6 @@ ghost use Rattle.spelling.specs.Spelling.{spelling, Wanted, One-spelling};
 
 mod naturals;
 mod reads;
-#[cfg(test)]
-mod tests;
 mod text;
 
 use cells::types::Cell;

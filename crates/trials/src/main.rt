@@ -1,6 +1,8 @@
-// Trials: each refusal of a heading, a draft and a row met once, and answers that are known beforehand.
+// Trials: spellings, values and answers that are known beforehand, and each refusal of a heading, a draft and a row met once.
 mod answers;
 mod drafts;
+mod spellings;
+mod values;
 
 use cells::headings::Heading;
 use cells::types::Kind;
@@ -50,6 +52,8 @@ fn seventh_column() -> u8 {
 
 fn run(rt: &LibcRuntime) -> Result<(), Fault> {
     let heap = rt.alloc();
+    spellings::show(rt)?;
+    values::show(rt)?;
     let number = seventh_column();
     println!(rt, "a seventh column: {number}")?;
     drafts::show_tables(rt, heap)?;

@@ -32,6 +32,18 @@ impl<S: Store> Cached<S> {
             turn: 0,
         }
     }
+
+    // The store below; what was remembered is let go.
+    pub fn into_inner(self) -> S
+        ensures value { λ r. ⌜ r ≡ self .inner ⌝ }
+    {
+        let Cached {
+            inner,
+            memory: _,
+            turn: _,
+        } = self;
+        inner
+    }
 }
 
 pub impl<S: Store> Store for Cached<S> as CachedStore {

@@ -1,0 +1,9 @@
+mod Adding
+mod Answering
+mod Chaining
+mod Filing
+mod Indexed
+mod Placing
+mod Rows
+mod Steps
+mod Zero

@@ -1,0 +1,4 @@
+pub mod Buckets
+pub mod Chains
+pub mod Indexes
+pub mod HashStores

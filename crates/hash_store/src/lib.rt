@@ -1,0 +1,6 @@
+// A store that finds rows by hashing: a caller's places, chained by column and bucket.
+mod adds;
+pub mod index;
+pub mod place;
+pub mod store;
+mod walks;
