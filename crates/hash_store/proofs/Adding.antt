@@ -36,6 +36,7 @@ module _ (ps : List Place) (heads tails : List ℕ) (count : ℕ) (p : Place) (r
       before : rows-in (set ps count p) count ≡ rows-in ps count
       before = ap (map row-in) (take-set ps count p)
 
+module _ (ps : List Place) (count : ℕ) (p : Place) (room : count < length ps) where
   -- the new row is behind the others
   pub filed-rows : (qs : List Place) → map row-in qs ≡ map row-in (set ps count p) → rows-in qs (count + 1) ≡ rows-in ps count ++ row-in p ∷ []
   filed-rows qs e =

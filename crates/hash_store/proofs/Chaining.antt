@@ -1,14 +1,14 @@
 -- That all is chained has at most one proof, so it comes out of its truncation; and an empty table is chained.
-use mathlib.Core.Path.{_≡_, refl, sym, ap, _∙_}
+use mathlib.Core.Path.{_≡_, ap}
 use mathlib.Core.List.{List, []}
 use mathlib.Core.Logic.{∥∥₁-elim}
-use Prim.Native.Nat.{ℕ, _+_, _*_, _-_, _<_, _≤_}
+use Prim.Native.Nat.{ℕ, _-_, _<_}
 use native.Mathlib.Bridge.{le-prop}
 use native.Mathlib.Omega.{arith}
 use std.HLevel.{Π-prop}
 use base.Stored.{codedℕ, codedBool}
 use denote.Struct.Props.{≡-prop, three-prop}
-use lib.ListN.{length, getD, replicate}
+use lib.ListN.{replicate}
 use Rattle.std.proofs.shelf.Lists.{getD-replicate}
 use Rattle.stores.specs.Tables.{Built}
 use Rattle.hash_store.specs.declared.place.Place.{Place}

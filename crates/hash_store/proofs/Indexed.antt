@@ -3,7 +3,6 @@ use mathlib.Core.Path.{_≡_, sym, ap, _∙_}
 use mathlib.Core.Bool.{true, false}
 use Prim.Native.Nat.{ℕ, _-_, _<_, _≤_}
 use native.Mathlib.Omega.{arith}
-use lib.Dec.{ltb}
 use lib.ListN.{length, getD}
 use Rattle.std.specs.Of.Vec.{vec-len, vec-items}
 use Rattle.std.specs.declared.option.Option.the-variants.{Some, None}
@@ -12,7 +11,7 @@ use Rattle.std.proofs.shelf.Tests.{lt-ltb, le-ltb}
 use Rattle.basis.specs.Lists.{numbered}
 use Rattle.hash_store.specs.declared.place.Place.{Place}
 use Rattle.hash_store.specs.declared.index.TableIndex.{TableIndex}
-use Rattle.hash_store.specs.Chains.{no-place, row-in, rows-in, All-chained}
+use Rattle.hash_store.specs.Chains.{no-place, row-in, All-chained}
 use Rattle.hash_store.specs.Indexes.{table-of, is-open}
 use Rattle.hash_store.proofs.Rows.{length-rows, row-numbered, row-past}
 use Rattle.hash_store.proofs.Chaining.{all-chained}

@@ -1,6 +1,7 @@
 mod Adding
 mod Answering
 mod Chaining
+mod Draining
 mod Filing
 mod Indexed
 mod Placing

@@ -3,15 +3,15 @@ use mathlib.Core.Path.{_≡_, refl, sym, ap, subst, _∙_}
 use mathlib.Core.Bool.{true, false}
 use mathlib.Core.List.{List, [], _∷_, _++_, map}
 use mathlib.Core.Logic.{⊎-elim}
-use Prim.Native.Nat.{ℕ, suc, _+_, _*_, _-_, _<_, _≤_}
+use Prim.Native.Nat.{ℕ, suc, _+_, _-_, _<_, _≤_}
 use native.Mathlib.Omega.{arith}
-use lib.ListN.{length, getD, set, take, length-map}
+use lib.ListN.{length, getD, set, take}
 use Rattle.std.proofs.shelf.Lists.{getD-set-same, getD-set-other, set-getD, map-set, map-more, take-map, getD-map}
 use Rattle.std.proofs.shelf.Tests.{cases-eq}
 use Rattle.stores.specs.Tables.{Built}
 use Rattle.hash_store.specs.declared.place.Place.{Place}
 use Rattle.hash_store.specs.Buckets.{in-bucket, next-filed}
-use Rattle.hash_store.specs.Chains.{no-row, no-place, row-in, rows-in, slot, end-in, link-in, Is-column, Chained}
+use Rattle.hash_store.specs.Chains.{no-row, no-place, row-in, rows-in, slot, end-in, link-in, Chained}
 use Rattle.hash_store.proofs.Rows.{length-rows}
 use Rattle.hash_store.proofs.Filing.{Filed, heads-none, links-none, tails-none, heads-more, links-more, tails-more}
 

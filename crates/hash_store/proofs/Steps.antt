@@ -1,6 +1,6 @@
 -- A walk along a chain passes over no match, and counts the rows of the bucket.
 use mathlib.Core.Path.{_≡_, refl, sym, ap, subst, _∙_}
-use mathlib.Core.Bool.{Bool, true, false, cond}
+use mathlib.Core.Bool.{true, false, cond}
 use mathlib.Core.List.{List}
 use mathlib.Core.Logic.{⊎-elim}
 use Prim.Native.Nat.{ℕ, zero, suc, _+_, _-_, _<_, _≤_}
@@ -8,10 +8,9 @@ use native.Mathlib.Numerals.{add-one}
 use native.Mathlib.Omega.{arith}
 use lib.Dec.{eqb}
 use lib.ListN.{length, getD, take, length-take}
-use Rattle.std.specs.shelf.Lists.{countBy}
 use Rattle.std.specs.declared.option.Option.{Option}
 use Rattle.std.specs.declared.option.Option.the-variants.{Some, None}
-use Rattle.std.proofs.shelf.Lists.{take-all, getD-default}
+use Rattle.std.proofs.shelf.Lists.{getD-default}
 use Rattle.std.proofs.shelf.Sums.{countBy-more-yes, countBy-more-no, countBy-le-length}
 use Rattle.std.proofs.shelf.Tests.{both-ways, eq-eqb, ne-eqb, cases-bool, cases-lt, cases-eq}
 use Rattle.basis.specs.Lists.{numbered}
@@ -20,7 +19,7 @@ use Rattle.keys.specs.Keys.{same-cell}
 use Rattle.keys.proofs.CellOrder.{same-cell-decides}
 use Rattle.stores.specs.Tables.{Built, is-cell, matches, next-after}
 use Rattle.stores.proofs.Next.{next-found, next-is, next-none, next-is-none, next-skip}
-use Rattle.hash_store.specs.Buckets.{cell-bucket, is-filed, in-bucket, or-zero, next-filed, ends-at, filed-upto}
+use Rattle.hash_store.specs.Buckets.{cell-bucket, is-filed, in-bucket, or-zero, next-filed, filed-upto}
 use Rattle.hash_store.specs.Chains.{no-row}
 
 -- a row of another bucket does not match

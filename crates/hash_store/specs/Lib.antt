@@ -1,4 +1,5 @@
 pub mod Buckets
 pub mod Chains
-pub mod Indexes
+pub mod Costs
 pub mod HashStores
+pub mod Indexes

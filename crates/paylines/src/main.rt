@@ -15,6 +15,7 @@ use faults::FaultFromIo;
 use faults::FaultFromRefused;
 use hash_store::store::calls::HashStoreStore;
 use query::drafts::Draft;
+use sorted_store::store::calls::SortedStoreStore;
 use std::alloc::AllocError;
 use std::alloc::Global;
 use std::io::Write;
@@ -86,11 +87,32 @@ fn run(rt: &LibcRuntime) -> Result<(), Fault> {
     draws::show(rt, 1)
 }
 
-fn show_stores(rt: &LibcRuntime, draft: &Draft, tables: &[Vec<Row>], lines: &[u8]) -> Result<(), Fault> {
+fn show_stores(
+    rt: &LibcRuntime,
+    draft: &Draft,
+    tables: &[Vec<Row>],
+    lines: &[u8],
+) -> Result<(), Fault> {
     let heap = rt.alloc();
     println!(rt, "Once more through each store:")?;
     through::show(rt, "hash", draft, tables, lines, memory::hash(heap)?)?;
-    through::show_cached(rt, "hash, cached", draft, tables, lines, memory::hash(heap)?)?;
+    through::show_cached(
+        rt,
+        "hash, cached",
+        draft,
+        tables,
+        lines,
+        memory::hash(heap)?,
+    )?;
+    through::show(rt, "sorted", draft, tables, lines, memory::sorted(heap)?)?;
+    through::show_cached(
+        rt,
+        "sorted, cached",
+        draft,
+        tables,
+        lines,
+        memory::sorted(heap)?,
+    )?;
     Ok(())
 }
 

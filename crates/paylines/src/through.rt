@@ -33,16 +33,36 @@ fn build_all<S: Store>(store: &mut S, tables: &[Vec<Row>])
 }
 
 // Says whether the lines are the same, and how often the store was asked.
-fn report<S: Store>(rt: &LibcRuntime, name: &str, found: &[u8], lines: &[u8], store: &Counting<S>) -> Result<(), Fault> {
-    let verdict = if found == lines { "the same lines" } else { "OTHER LINES" };
+fn report<S: Store>(
+    rt: &LibcRuntime,
+    name: &str,
+    found: &[u8],
+    lines: &[u8],
+    store: &Counting<S>,
+) -> Result<(), Fault> {
+    let verdict = if found == lines {
+        "the same lines"
+    } else {
+        "OTHER LINES"
+    };
     let punches = store.asked(0);
     let crews = store.asked(1);
-    println!(rt, "{name}: {verdict}; asked {punches} of punch, {crews} of crew")?;
+    println!(
+        rt,
+        "{name}: {verdict}; asked {punches} of punch, {crews} of crew"
+    )?;
     Ok(())
 }
 
 // The day through this store.
-pub(crate) fn show<S: Store + Drop>(rt: &LibcRuntime, name: &str, draft: &Draft, tables: &[Vec<Row>], lines: &[u8], store: S) -> Result<(), Fault>
+pub(crate) fn show<S: Store + Drop>(
+    rt: &LibcRuntime,
+    name: &str,
+    draft: &Draft,
+    tables: &[Vec<Row>],
+    lines: &[u8],
+    store: S,
+) -> Result<(), Fault>
     requires { ⌜ S·Store .sound store ⌝ }
 {
     let mut store = Counting::over(store);
@@ -52,7 +72,14 @@ pub(crate) fn show<S: Store + Drop>(rt: &LibcRuntime, name: &str, draft: &Draft,
 }
 
 // The day through this store with a cache over it: what the cache remembers, the store is not asked.
-pub(crate) fn show_cached<S: Store + Drop>(rt: &LibcRuntime, name: &str, draft: &Draft, tables: &[Vec<Row>], lines: &[u8], store: S) -> Result<(), Fault>
+pub(crate) fn show_cached<S: Store + Drop>(
+    rt: &LibcRuntime,
+    name: &str,
+    draft: &Draft,
+    tables: &[Vec<Row>],
+    lines: &[u8],
+    store: S,
+) -> Result<(), Fault>
     requires { ⌜ S·Store .sound store ⌝ }
 {
     let mut store = Cached::over(Counting::over(store));

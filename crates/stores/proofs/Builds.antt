@@ -7,16 +7,14 @@ use Prim.Native.Nat.{ℕ, zero, suc, _+_, _<_, _≤_}
 use native.Mathlib.Numerals.{add-one}
 use native.Mathlib.Omega.{arith}
 use lib.Dec.{ltb}
-use lib.ListN.{length, getD, set}
-use Rattle.std.specs.Finite.{nth}
+use lib.ListN.{length, set}
 use Rattle.std.specs.declared.option.Option.the-variants.{Some}
-use Rattle.std.proofs.shelf.Lists.{getD-set-same, getD-set-other, set-past, getD-past, getD-append-left, length-push, getD-push}
-use Rattle.std.proofs.shelf.Maps.{nth-getD}
-use Rattle.std.proofs.shelf.Tests.{cases-lt, cases-eq, both-ways, le-ltb, ltb-true}
+use Rattle.std.proofs.shelf.Lists.{getD-set-same, getD-set-other, getD-past, length-push}
+use Rattle.std.proofs.shelf.Tests.{cases-lt, cases-eq, both-ways}
 use Rattle.basis.specs.Lists.{numbered}
 use Rattle.cells.specs.declared.types.Cell.{Cell}
 use Rattle.cells.specs.declared.rows.Row.{Row}
-use Rattle.stores.specs.Tables.{Built, Table, no-table, table-at, count-at, row-at, has-room, built-row, grown, built, matches, next-after, next-row}
+use Rattle.stores.specs.Tables.{Table, no-table, table-at, count-at, row-at, has-room, built-row, grown, built, matches, next-after, next-row}
 use Rattle.stores.proofs.Next.{next-append}
 
 -- elements at the end of a list leave the numbers of the others

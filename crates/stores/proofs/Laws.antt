@@ -1,21 +1,19 @@
 -- The laws of next and build, from the lemmas on lists.
-use mathlib.Core.Path.{_≡_, refl, sym, ap, subst, _∙_}
-use mathlib.Core.Bool.{Bool, true, false}
+use mathlib.Core.Path.{_≡_, refl, sym, ap, _∙_}
+use mathlib.Core.Bool.{true, false}
 use mathlib.Core.List.{List, []}
 use mathlib.Core.Logic.{⊎-elim}
-use Prim.Native.Nat.{ℕ, zero, suc, _<_, _≤_}
+use Prim.Native.Nat.{ℕ, zero, suc, _<_}
 use native.Mathlib.Omega.{arith}
-use lib.ListN.{length, getD}
+use lib.ListN.{getD}
 use Rattle.std.specs.declared.option.Option.{Option}
 use Rattle.std.specs.declared.option.Option.the-variants.{Some, None}
 use Rattle.std.proofs.shelf.Maps.{nth-getD, nth-past}
 use Rattle.std.proofs.shelf.Tests.{cases-lt, cases-bool, both-ways}
-use Rattle.basis.specs.Reading.{Exactly}
 use Rattle.cells.specs.declared.types.Cell.{Cell}
-use Rattle.cells.specs.declared.rows.Row.{Row}
 use Rattle.keys.proofs.CellOrder.{same-cell-decides}
-use Rattle.stores.specs.Tables.{Built, Table, table-at, count-at, row-at, cell-of, cell-at, is-cell, matches, next-row}
-use Rattle.stores.specs.Laws.{Least, Next-laws, Build-laws, Store-laws}
+use Rattle.stores.specs.Tables.{Built, Table, table-at, count-at, cell-of, cell-at, is-cell, matches, next-row}
+use Rattle.stores.specs.Laws.{Least, Next-laws, Store-laws}
 use Rattle.stores.proofs.Next.{some-not-none, Found, next-found, next-is, next-none}
 use Rattle.stores.proofs.Builds.{built-other, built-room, built-old, built-count, built-last, next-built}
 

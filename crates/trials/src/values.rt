@@ -46,8 +46,14 @@ fn show_value(rt: &LibcRuntime, name: &str, items: &[Item]) -> Result<(), Fault>
 }
 
 pub(crate) fn show(rt: &LibcRuntime) -> Result<(), Fault> {
-    let came = Item::Column(Column { table: 0, column: 2 });
-    let left = Item::Column(Column { table: 0, column: 3 });
+    let came = Item::Column(Column {
+        table: 0,
+        column: 2,
+    });
+    let left = Item::Column(Column {
+        table: 0,
+        column: 3,
+    });
     show_value(rt, "1030 - 540", &[Item::Sub, left, came])?;
     show_value(rt, "a sum of one", &[Item::Add, left])?;
     let deep = nested(7);

@@ -1,8 +1,9 @@
 // The calls of a store, passed on to the index of the table.
 ghost use mathlib.Core.Path.{_≡_};
-ghost use mathlib.Core.List.{List, [], _∷_};
-ghost use Rattle.stores.specs.Tables.{Table, table-at, next-row};
+ghost use mathlib.Core.List.{[], _∷_};
+ghost use Rattle.stores.specs.Tables.{table-at, next-row};
 ghost use Rattle.hash_store.specs.Buckets.{visits};
+ghost use Rattle.hash_store.specs.Costs.{Drain-law};
 ghost use Rattle.hash_store.specs.Indexes.{table-of};
 ghost use Rattle.hash_store.specs.HashStores.{tables-of, table-in};
 use super::HashStore;
@@ -47,6 +48,7 @@ impl HashStore {
     pub fn probe(&self, table: usize, column: usize, key: Cell, after: usize) -> Probed
         ensures value { λ r. ⌜ r .row ≡ next-row (tables-of (now (self .entry))) table column key after ⌝ }
         ensures cost { λ r. ⌜ r .visited ≡ visits (table-at (tables-of (now (self .entry))) table .rows) column key after ⌝ }
+        ensures law { λ r. ⌜ Drain-law ⌝ }
     {
         match self.index(table) {
             Some(x) => x.probe(column, key, after),

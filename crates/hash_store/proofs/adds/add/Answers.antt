@@ -1,12 +1,11 @@
-use mathlib.Core.Path.{_≡_, refl, sym, ap, subst, _∙_}
-use Prim.Native.Nat.{ℕ, _+_, _-_, _<_, _≤_}
+use mathlib.Core.Path.{refl}
+use Prim.Native.Nat.{ℕ, _-_, _<_, _≤_}
 use native.Mathlib.Omega.{arith}
 use borrow.Author.Needs.{needs}
 use mathlib.Core.List.{[], _∷_}
-use lib.ListN.{length, getD, set}
 use Rattle.cells.specs.declared.rows.Row.{Row}
 use Rattle.hash_store.specs.declared.place.Place.{Place}
-use Rattle.hash_store.proofs.Adding.{Part-filed, filed-none, filed-rows, filed-more, fresh}
+use Rattle.hash_store.proofs.Adding.{filed-none, filed-rows, filed-more, fresh}
 use Rattle.hash_store.proofs.adds.add.Needs as need
 
 -- the place as it is written
@@ -26,7 +25,7 @@ file-row-requires c κs =
     record {
       within = search needs;
       chained = c .loop-column .inv .left (c .loop-column .column) (low, high) (omega arith);
-      newest = fresh (c .args .places .now) (c .args .heads .now) (c .args .tails .now) (c .args .count) (new (c .args .row) (c .args .stamp)) (c .pre .within .1)
+      newest = fresh (c .args .places .now) (c .args .count) (new (c .args .row) (c .args .stamp)) (c .pre .within .1)
           (c .loop-column .places) (c .loop-column .column) refl (low, high) (c .loop-column .inv .newest);
     }
 
@@ -40,6 +39,6 @@ pub returns : need.returns
 unfolding new
 returns c =
     record {
-      rows = filed-rows (c .args .places .now) (c .args .heads .now) (c .args .tails .now) (c .args .count) (new (c .args .row) (c .args .stamp)) (c .pre .within .1) (c .loop-column .places) (c .loop-column .inv .rows);
+      rows = filed-rows (c .args .places .now) (c .args .count) (new (c .args .row) (c .args .stamp)) (c .pre .within .1) (c .loop-column .places) (c .loop-column .inv .rows);
       chained = λ d is. let high = is .1 in c .loop-column .inv .done d is (omega (arith, c .loop-column-test .left));
     }

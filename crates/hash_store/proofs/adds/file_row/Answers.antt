@@ -1,6 +1,6 @@
-use mathlib.Core.Path.{_≡_, refl, sym, ap, subst, _∙_}
-use mathlib.Core.Bool.{true, false}
-use Prim.Native.Nat.{ℕ, _+_, _-_, _<_, _≤_}
+use mathlib.Core.Path.{_≡_, refl, sym, ap, _∙_}
+use mathlib.Core.Bool.{true}
+use Prim.Native.Nat.{ℕ, _+_, _-_, _<_}
 use native.Mathlib.Omega.{arith}
 use borrow.Author.Needs.{needs}
 use lib.ListN.{length, getD, set}
@@ -9,8 +9,8 @@ use Rattle.std.proofs.shelf.Tests.{eq-eqb}
 use Rattle.std.specs.declared.option.Option.{Option}
 use Rattle.std.specs.declared.option.Option.the-variants.{Some}
 use Rattle.cells.specs.declared.types.Cell.{Cell}
-use Rattle.hash_store.specs.Buckets.{cell-bucket, is-filed, in-bucket}
-use Rattle.hash_store.specs.Chains.{no-place, row-in, rows-in, slot, end-in}
+use Rattle.hash_store.specs.Buckets.{cell-bucket, is-filed}
+use Rattle.hash_store.specs.Chains.{no-place, slot, end-in}
 use Rattle.hash_store.proofs.Rows.{length-rows}
 use Rattle.hash_store.proofs.Placing.{relinked, chained-same, end-other, link-other, relinked-rows, chained-none, chained-first, chained-last}
 use Rattle.hash_store.proofs.adds.file_row.Needs as need

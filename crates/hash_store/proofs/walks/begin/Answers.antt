@@ -1,8 +1,8 @@
-use mathlib.Core.Path.{_≡_, refl, sym, ap, _∙_}
+use mathlib.Core.Path.{_≡_, sym, ap, _∙_}
 use mathlib.Core.Bool.{true, false, cond}
-use Prim.Native.Nat.{ℕ, _-_, _<_, _≤_}
+use Prim.Native.Nat.{_-_}
 use native.Mathlib.Omega.{arith}
-use lib.ListN.{length, getD}
+use lib.ListN.{getD}
 use Rattle.hash_store.specs.Buckets.{in-bucket, kept-in-bucket}
 use Rattle.hash_store.specs.Chains.{no-place, row-in}
 use Rattle.hash_store.proofs.Rows.{row-read, row-numbered, row-past}

@@ -1,12 +1,12 @@
-use mathlib.Core.Path.{_≡_, refl, sym, ap, _∙_}
+use mathlib.Core.Path.{_≡_, sym, ap, _∙_}
 use mathlib.Core.Bool.{true, false}
-use Prim.Native.Nat.{ℕ, suc, _+_, _-_, _<_, _≤_}
+use Prim.Native.Nat.{suc, _+_, _-_, _<_}
 use native.Mathlib.Omega.{arith}
 use borrow.Author.Needs.{needs}
 use lib.ListN.{length, getD}
 use Rattle.stores.specs.Tables.{matches, next-after}
 use Rattle.hash_store.specs.Buckets.{cell-bucket, next-filed, filed-upto, or-zero, ends-at}
-use Rattle.hash_store.specs.Chains.{no-row, no-place, row-in, rows-in, link-in}
+use Rattle.hash_store.specs.Chains.{no-row, rows-in, link-in}
 use Rattle.hash_store.proofs.Rows.{length-rows, row-read}
 use Rattle.hash_store.proofs.Steps.{Walk, walk-few, walk-from, walk-more, walk-found, next-filed-above, later}
 use Rattle.hash_store.proofs.walks.walk.Needs as need

@@ -1,21 +1,21 @@
 use mathlib.Core.Path.{_≡_, sym, ap, subst, _∙_}
 use mathlib.Core.Bool.{cond}
 use mathlib.Core.List.{List, [], _∷_, _++_}
-use Prim.Native.Nat.{ℕ, min, _+_, _<_, _≤_}
+use Prim.Native.Nat.{ℕ, _+_, _<_, _≤_}
 use native.Mathlib.Omega.{arith}
 use borrow.Author.Needs.{needs}
-use lib.ListN.{length, take, length-take}
+use lib.ListN.{length, length-take}
 use Rattle.std.specs.Of.Vec.{vec-len, vec-items}
 use Rattle.std.specs.Changed.{refilled}
 use Rattle.std.proofs.shelf.Lists.{refilled-is}
 use Rattle.cells.specs.declared.rows.Row.{Row}
-use Rattle.stores.specs.Tables.{Built, Table, grown, built-row}
+use Rattle.stores.specs.Tables.{Built, grown, built-row}
 use Rattle.hash_store.specs.declared.place.Place.{Place}
 use Rattle.hash_store.specs.declared.index.TableIndex.{TableIndex}
 use Rattle.hash_store.specs.Chains.{rows-in, All-chained, All-narrow}
-use Rattle.hash_store.specs.Indexes.{table-of, built-in}
+use Rattle.hash_store.specs.Indexes.{table-of}
 use Rattle.hash_store.proofs.Answering.{narrow-push}
-use Rattle.hash_store.proofs.Indexed.{items-long, room-placed, chains, open-below, full-at}
+use Rattle.hash_store.proofs.Indexed.{room-placed, chains, open-below, full-at}
 use Rattle.hash_store.proofs.index.TableIndex.build.Needs as need
 
 pub returns-then-self : need.returns-then-self

@@ -1,4 +1,4 @@
-use mathlib.Core.Path.{_≡_, sym, ap, _∙_}
+use mathlib.Core.Path.{sym, ap, _∙_}
 use native.Mathlib.Omega.{arith}
 use Rattle.stores.specs.Tables.{cell-of}
 use Rattle.hash_store.proofs.Indexed.{read-row, no-row-past}

@@ -1,0 +1,6 @@
+pub mod Sorting
+mod Halving
+mod Searching
+pub mod EntryOrder
+mod Shifting
+pub mod Nearest

@@ -1,0 +1,7 @@
+mod Windows
+mod Stretches
+mod Adding
+mod Rows
+mod Indexed
+mod Growing
+mod Answering
