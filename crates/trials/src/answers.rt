@@ -9,6 +9,7 @@ use faults::Fault;
 use faults::FaultFromAlloc;
 use faults::FaultFromDraft;
 use faults::FaultFromRefused;
+use query::drafts::Draft;
 use std::alloc::Global;
 
 // A row with the number 5 and a code of one letter.
@@ -24,22 +25,17 @@ fn five(letter: u8) -> Row {
     }
 }
 
-// Two equal rows in each of two joined tables.
-pub(crate) fn twice_two(heap: Global) -> Result<Vec<u8>, Fault> {
-    let mut draft = star(heap, 2)?;
-    draft.show_value(
-        &[
-            Item::Add,
-            Item::Column(Column {
-                table: 0,
-                column: 1,
-            }),
-            Item::Column(Column {
-                table: 1,
-                column: 1,
-            }),
-        ],
-    )?;
+// Shows the sum of the two numbers, and both codes.
+fn show_all(draft: &mut Draft) -> Result<(), Fault> {
+    let first = Item::Column(Column {
+        table: 0,
+        column: 1,
+    });
+    let second = Item::Column(Column {
+        table: 1,
+        column: 1,
+    });
+    draft.show_value(&[Item::Add, first, second])?;
     draft.show_code(Column {
         table: 0,
         column: 2,
@@ -48,8 +44,19 @@ pub(crate) fn twice_two(heap: Global) -> Result<Vec<u8>, Fault> {
         table: 1,
         column: 2,
     })?;
+    Ok(())
+}
+
+// Two equal rows in each of two joined tables.
+pub(crate) fn twice_two(heap: Global) -> Result<Vec<u8>, Fault> {
+    let mut draft = star(heap, 2)?;
+    show_all(&mut draft)?;
     let mut tables = Vec::new(heap);
-    tables.push(vec![in heap; five(b'A'), five(b'A')]?)?;
-    tables.push(vec![in heap; five(b'B'), five(b'B')]?)?;
+    for letter in [b'A', b'B'] {
+        let mut rows = Vec::new(heap);
+        rows.push(five(letter))?;
+        rows.push(five(letter))?;
+        tables.push(rows)?;
+    }
     Ok(nested_loops::answer(heap, &draft, &tables)?)
 }

@@ -1,16 +1,15 @@
-// Each refusal of a draft and of a row, met once.
+// Each refusal of a draft and of a row, met once. A refused call changes nothing, so one draft serves for several.
 use crate::pair;
+use crate::say;
 use crate::star;
 use cells::types::Cell;
 use cells::types::Code;
 use expressions::types::Column;
 use expressions::types::Item;
 use faults::Fault;
-use faults::FaultFromAlloc;
 use faults::FaultFromDraft;
-use faults::FaultFromHeading;
-use faults::FaultFromIo;
 use faults::FaultFromRefusal;
+use query::drafts::Draft;
 use query::types::DraftError;
 use query::types::Join;
 use query::types::Refusal;
@@ -32,6 +31,16 @@ const NONE: Column = Column {
     column: 3,
 };
 
+const SECOND: Column = Column {
+    table: 1,
+    column: 1,
+};
+
+const NO_TABLE: Column = Column {
+    table: 2,
+    column: 1,
+};
+
 // The number of a refusal; 0 for a call that was granted or found no memory.
 fn number_of(result: Result<(), DraftError>) -> u8 {
     match result {
@@ -48,131 +57,156 @@ fn refusal_of(result: Result<(), Refusal>) -> u8 {
 }
 
 pub(crate) fn show_tables(rt: &LibcRuntime, heap: Global) -> Result<(), Fault> {
-    let heading = pair()?;
-    let seventh = refusal_of(star(heap, 6)?.add_table(heading, NUMBER, 1));
-    let missing = refusal_of(star(heap, 1)?.add_table(heading, NUMBER, 3));
-    let differing = refusal_of(star(heap, 1)?.add_table(heading, NUMBER, 2));
-    println!(rt, "a seventh table: {seventh}")?;
-    println!(
+    let heading = pair();
+    let mut full = star(heap, 6)?;
+    say(
         rt,
-        "a new table joined by a column that it lacks: {missing}"
+        "a seventh table",
+        refusal_of(full.add_table(heading, NUMBER, 1)),
     )?;
-    println!(
+    let mut draft = star(heap, 1)?;
+    say(
         rt,
-        "a new table joined by columns of two kinds: {differing}"
+        "a new table joined by a column that it lacks",
+        refusal_of(draft.add_table(heading, NUMBER, 3)),
     )?;
-    Ok(())
+    say(
+        rt,
+        "a new table joined by columns of two kinds",
+        refusal_of(draft.add_table(heading, NUMBER, 2)),
+    )
 }
 
-// A draft of two tables with ten joins, and one more.
-fn eleventh_join(heap: Global) -> Result<u8, Fault> {
-    let mut draft = star(heap, 2)?;
-    let again = Join {
-        left: NUMBER,
-        right: Column {
-            table: 1,
-            column: 1,
-        },
-    };
+fn join(left: Column, right: Column) -> Join {
+    Join { left, right }
+}
+
+// Fills a draft of two tables up to ten joins.
+fn fill_joins(draft: &mut Draft) -> Result<(), Fault> {
     for _ in 0..9 {
-        draft.add_join(again)?;
+        draft.add_join(join(NUMBER, SECOND))?;
     }
-    Ok(refusal_of(draft.add_join(again)))
+    Ok(())
 }
 
 pub(crate) fn show_joins(rt: &LibcRuntime, heap: Global) -> Result<(), Fault> {
-    let eleventh = eleventh_join(heap)?;
-    let missing = refusal_of(star(heap, 2)?.add_join(Join {
-        left: NUMBER,
-        right: Column {
-            table: 2,
-            column: 1,
-        },
-    }));
-    let same = refusal_of(star(heap, 2)?.add_join(Join {
-        left: NUMBER,
-        right: NUMBER,
-    }));
-    let differing = refusal_of(star(heap, 2)?.add_join(Join {
-        left: CODE,
-        right: Column {
-            table: 1,
-            column: 1,
-        },
-    }));
-    println!(rt, "an eleventh join: {eleventh}")?;
-    println!(rt, "a join to a table that there is not: {missing}")?;
-    println!(rt, "a join of a table with itself: {same}")?;
-    println!(rt, "a join of columns of two kinds: {differing}")?;
-    Ok(())
+    let mut draft = star(heap, 2)?;
+    say(
+        rt,
+        "a join to a table that there is not",
+        refusal_of(draft.add_join(join(NUMBER, NO_TABLE))),
+    )?;
+    say(
+        rt,
+        "a join of a table with itself",
+        refusal_of(draft.add_join(join(NUMBER, NUMBER))),
+    )?;
+    say(
+        rt,
+        "a join of columns of two kinds",
+        refusal_of(draft.add_join(join(CODE, SECOND))),
+    )?;
+    fill_joins(&mut draft)?;
+    say(
+        rt,
+        "an eleventh join",
+        refusal_of(draft.add_join(join(NUMBER, SECOND))),
+    )
 }
 
-fn ninth_filter(heap: Global) -> Result<u8, Fault> {
-    let mut draft = star(heap, 1)?;
+fn filter(draft: &mut Draft, left: &[Item]) -> u8 {
+    number_of(draft.add_filter(Test::AtMost, left, &[Item::Number(9)]))
+}
+
+fn fill_filters(draft: &mut Draft) {
     for _ in 0..8 {
-        draft.add_filter(Test::AtMost, &[Item::Column(NUMBER)], &[Item::Number(9)])?;
+        let _ = filter(draft, &[Item::Column(NUMBER)]);
     }
-    Ok(number_of(draft.add_filter(Test::AtMost, &[Item::Column(NUMBER)], &[Item::Number(9)])))
 }
 
 pub(crate) fn show_filters(rt: &LibcRuntime, heap: Global) -> Result<(), Fault> {
-    let ninth = ninth_filter(heap)?;
-    let one = [Item::Number(1)];
-    let lacking = number_of(star(heap, 1)?.add_filter(
-        Test::Equal,
-        &[Item::Add, Item::Number(1)],
-        &one,
-    ));
-    let code = number_of(star(heap, 1)?.add_filter(Test::Equal, &[Item::Column(CODE)], &one));
-    println!(rt, "a ninth filter: {ninth}")?;
-    println!(rt, "a sum that lacks its second part: {lacking}")?;
-    println!(rt, "a code column in an expression: {code}")?;
-    Ok(())
+    let mut draft = star(heap, 1)?;
+    say(
+        rt,
+        "a sum that lacks its second part",
+        filter(&mut draft, &[Item::Add, Item::Number(1)]),
+    )?;
+    say(
+        rt,
+        "a code column in an expression",
+        filter(&mut draft, &[Item::Column(CODE)]),
+    )?;
+    fill_filters(&mut draft);
+    say(
+        rt,
+        "a ninth filter",
+        filter(&mut draft, &[Item::Column(NUMBER)]),
+    )
 }
 
-fn seventh_shown(heap: Global) -> Result<u8, Fault> {
-    let mut draft = star(heap, 1)?;
+fn fill_shown(draft: &mut Draft) -> Result<(), Fault> {
     for _ in 0..6 {
         draft.show_code(CODE)?;
     }
-    Ok(number_of(draft.show_value(&[Item::Number(1)])))
-}
-
-pub(crate) fn show_shown(rt: &LibcRuntime, heap: Global) -> Result<(), Fault> {
-    let seventh = seventh_shown(heap)?;
-    let large = number_of(star(heap, 1)?.show_value(&[Item::Number(1_000_000_000_000)]));
-    let missing = number_of(star(heap, 1)?.show_code(NONE));
-    println!(rt, "a seventh shown thing: {seventh}")?;
-    println!(rt, "a shown number out of range: {large}")?;
-    println!(rt, "a shown column that there is not: {missing}")?;
     Ok(())
 }
 
-fn accepts(heap: Global, table: usize, cells: &[Cell]) -> Result<u8, Fault> {
-    match star(heap, 1)?.accepts(table, cells) {
-        Ok(()) => Ok(0),
-        Err(no) => Ok(no.number()),
+pub(crate) fn show_shown(rt: &LibcRuntime, heap: Global) -> Result<(), Fault> {
+    let mut draft = star(heap, 1)?;
+    say(
+        rt,
+        "a shown number out of range",
+        number_of(draft.show_value(&[Item::Number(1_000_000_000_000)])),
+    )?;
+    say(
+        rt,
+        "a shown column that there is not",
+        number_of(draft.show_code(NONE)),
+    )?;
+    fill_shown(&mut draft)?;
+    say(
+        rt,
+        "a seventh shown thing",
+        number_of(draft.show_value(&[Item::Number(1)])),
+    )
+}
+
+fn letter(byte: u8) -> Cell {
+    Cell::Code(Code {
+        bytes: [byte, 0, 0, 0, 0, 0, 0, 0, 0, 0, 0, 0],
+        len: 1,
+    })
+}
+
+fn accepts(draft: &Draft, table: usize, cells: &[Cell]) -> u8 {
+    match draft.accepts(table, cells) {
+        Ok(()) => 0,
+        Err(no) => no.number(),
     }
 }
 
 pub(crate) fn show_rows(rt: &LibcRuntime, heap: Global) -> Result<(), Fault> {
-    let letter = Cell::Code(Code {
-        bytes: [b'A', 0, 0, 0, 0, 0, 0, 0, 0, 0, 0, 0],
-        len: 1,
-    });
-    let small = Cell::Code(Code {
-        bytes: [b'a', 0, 0, 0, 0, 0, 0, 0, 0, 0, 0, 0],
-        len: 1,
-    });
-    let fits = accepts(heap, 0, &[Cell::Number(5), letter])?;
-    let no_table = accepts(heap, 1, &[Cell::Number(5), letter])?;
-    let short = accepts(heap, 0, &[Cell::Number(5)])?;
-    let unlawful = accepts(heap, 0, &[Cell::Number(5), small])?;
-    let turned = accepts(heap, 0, &[letter, Cell::Number(5)])?;
-    println!(rt, "a row that fits: {fits}")?;
-    println!(rt, "a row of a table that there is not: {no_table}")?;
-    println!(rt, "a row that is short: {short}")?;
-    println!(rt, "a row with an unlawful code: {unlawful}")?;
-    println!(rt, "a row with its kinds turned round: {turned}")?;
-    Ok(())
+    let draft = star(heap, 1)?;
+    let five = Cell::Number(5);
+    say(
+        rt,
+        "a row that fits",
+        accepts(&draft, 0, &[five, letter(b'A')]),
+    )?;
+    say(
+        rt,
+        "a row of a table that there is not",
+        accepts(&draft, 1, &[five, letter(b'A')]),
+    )?;
+    say(rt, "a row that is short", accepts(&draft, 0, &[five]))?;
+    say(
+        rt,
+        "a row with an unlawful code",
+        accepts(&draft, 0, &[five, letter(b'a')]),
+    )?;
+    say(
+        rt,
+        "a row with its kinds turned round",
+        accepts(&draft, 0, &[letter(b'A'), five]),
+    )
 }

@@ -6,30 +6,35 @@ mod values;
 
 use cells::headings::Heading;
 use cells::types::Kind;
+use expressions::types::Column;
 use faults::Fault;
 use faults::FaultFromAlloc;
-use faults::FaultFromHeading;
 use faults::FaultFromIo;
 use faults::FaultFromRefusal;
 use query::drafts::Draft;
 use std::alloc::Global;
 use std::io::Write;
 
+// Prints what was tried, and the number that it was refused with; 0 if it was granted.
+fn say(rt: &LibcRuntime, what: &str, number: u8) -> Result<(), Fault> {
+    println!(rt, "{what}: {number}")?;
+    Ok(())
+}
+
 // A heading with a number column and a code column.
-fn pair() -> Result<Heading, Fault> {
+fn pair() -> Heading {
     let mut heading = Heading::new(Kind::Number);
-    heading.push(Kind::Code)?;
-    Ok(heading)
+    let _ = heading.push(Kind::Code);
+    heading
 }
 
 // A draft of n tables, each joined to the first by its number column.
 fn star(heap: Global, n: usize) -> Result<Draft, Fault> {
-    let heading = pair()?;
-    let mut draft = Draft::new(heap, heading)?;
+    let mut draft = Draft::new(heap, pair())?;
     for _ in 1..n {
         draft.add_table(
-            heading,
-            expressions::types::Column {
+            pair(),
+            Column {
                 table: 0,
                 column: 1,
             },
@@ -50,23 +55,26 @@ fn seventh_column() -> u8 {
     number
 }
 
-fn run(rt: &LibcRuntime) -> Result<(), Fault> {
+fn show_refusals(rt: &LibcRuntime) -> Result<(), Fault> {
     let heap = rt.alloc();
-    spellings::show(rt)?;
-    values::show(rt)?;
-    let number = seventh_column();
-    println!(rt, "a seventh column: {number}")?;
+    say(rt, "a seventh column", seventh_column())?;
     drafts::show_tables(rt, heap)?;
     drafts::show_joins(rt, heap)?;
     drafts::show_filters(rt, heap)?;
     drafts::show_shown(rt, heap)?;
-    drafts::show_rows(rt, heap)?;
+    drafts::show_rows(rt, heap)
+}
+
+fn show_answer(rt: &LibcRuntime) -> Result<(), Fault> {
     println!(rt, "two equal rows in each of two joined tables:")?;
-    let lines = answers::twice_two(heap)?;
+    let lines = answers::twice_two(rt.alloc())?;
     rt.stdout().write_all(&lines)?;
     Ok(())
 }
 
 fn main(rt: LibcRuntime) -> Result<(), Fault> {
-    run(&rt)
+    spellings::show(&rt)?;
+    values::show(&rt)?;
+    show_refusals(&rt)?;
+    show_answer(&rt)
 }
