@@ -66,9 +66,6 @@ narrow-push rows r old few i lt =
     (cases-lt i (length rows))
 
 -- a table with no rows
-pub empty-next : (column : ℕ) (key : Cell) (after : ℕ) → next-after (matches column key) after [] ≡ None
-empty-next column key after = next-is-none (matches column key) after [] (λ i d l u. absurd (let z : ⊥ = omega arith in z))
-
 pub empty-visits : (column : ℕ) (key : Cell) (after : ℕ) → visits [] column key after ≡ 0
 empty-visits column key after =
     let n = ends-at (next-after (matches column key) after []) [] in

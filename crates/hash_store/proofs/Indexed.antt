@@ -12,7 +12,8 @@ use Rattle.basis.specs.Lists.{numbered}
 use Rattle.hash_store.specs.declared.place.Place.{Place}
 use Rattle.hash_store.specs.declared.index.TableIndex.{TableIndex}
 use Rattle.hash_store.specs.Chains.{no-place, row-in, All-chained}
-use Rattle.hash_store.specs.Indexes.{table-of, is-open}
+use Rattle.six_tables.specs.Indexes.{is-open}
+use Rattle.hash_store.specs.Indexes.{table-of}
 use Rattle.hash_store.proofs.Rows.{length-rows, row-numbered, row-past}
 use Rattle.hash_store.proofs.Chaining.{all-chained}
 

@@ -1,5 +1,4 @@
 pub mod Buckets
 pub mod Chains
 pub mod Costs
-pub mod HashStores
 pub mod Indexes

@@ -2,5 +2,4 @@
 mod adds;
 pub mod index;
 pub mod place;
-pub mod store;
 mod walks;

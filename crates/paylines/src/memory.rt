@@ -1,10 +1,9 @@
 // Empty stores for a small day: 64 places a table.
-ghost use Rattle.std.specs.Vec.{made};
-ghost use Rattle.sorted_store.specs.SortedStores.{Sound};
-use hash_store::store::HashStore;
+use hash_store::index::calls::HashIndex;
+use six_tables::store::SixTables;
 use sorted_index::entry::EntryClone;
+use sorted_store::index::calls::SortedIndex;
 use sorted_store::place::Place as SortedPlace;
-use sorted_store::store::SortedStore;
 use std::alloc::AllocError;
 use std::alloc::Global;
 
@@ -18,8 +17,8 @@ fn hash_table(heap: Global) -> Result<hash_store::index::TableIndex, AllocError>
     Ok(hash_store::index::TableIndex::new(PLACES, places))
 }
 
-pub(crate) fn hash(heap: Global) -> Result<HashStore, AllocError> {
-    Ok(HashStore::of(
+pub(crate) fn hash(heap: Global) -> Result<SixTables<hash_store::index::TableIndex>, AllocError> {
+    Ok(SixTables::of(
         hash_table(heap)?,
         hash_table(heap)?,
         hash_table(heap)?,
@@ -35,10 +34,10 @@ fn sorted_table(heap: Global) -> Result<sorted_store::index::TableIndex, AllocEr
     Ok(sorted_store::index::TableIndex::new(PLACES, places, entries))
 }
 
-pub(crate) fn sorted(heap: Global) -> Result<SortedStore, AllocError>
-    ensures { λ r. ⌜ made r Sound ⌝ }
-{
-    Ok(SortedStore::of(
+pub(crate) fn sorted(
+    heap: Global,
+) -> Result<SixTables<sorted_store::index::TableIndex>, AllocError> {
+    Ok(SixTables::of(
         sorted_table(heap)?,
         sorted_table(heap)?,
         sorted_table(heap)?,

@@ -64,6 +64,3 @@ module _ (rows : List Built) (es : List (Entry Cell)) (filled : List ℕ) (room 
   pub no-having : (column : ℕ) → (column ≡ 0) ⊎ (6 < column) → All-counted rows filled → having column rows ≡ 0
   no-having zero out counts = zero-having rows
   no-having (suc c) out counts = sym (counts c) ∙ above c out
-
-pub empty-next : (column : ℕ) (key : Cell) (after : ℕ) → None ≡ next-after (matches column key) after []
-empty-next column key after = sym (next-is-none (matches column key) after [] (λ i d le lt. absurd (let z : ⊥ = omega arith in z)))

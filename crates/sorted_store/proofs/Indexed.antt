@@ -10,7 +10,8 @@ use Rattle.std.proofs.shelf.Tests.{lt-ltb, le-ltb}
 use Rattle.std.specs.Options.{isSome}
 use Rattle.basis.specs.Lists.{numbered}
 use Rattle.sorted_store.specs.declared.index.TableIndex.{TableIndex}
-use Rattle.sorted_store.specs.Indexes.{table-of, is-open}
+use Rattle.six_tables.specs.Indexes.{is-open}
+use Rattle.sorted_store.specs.Indexes.{table-of}
 use Rattle.sorted_store.proofs.Rows.{length-rows}
 
 module _ (x : TableIndex) where

@@ -2,4 +2,3 @@
 mod columns;
 pub mod index;
 pub mod place;
-pub mod store;

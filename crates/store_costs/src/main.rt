@@ -3,10 +3,11 @@ mod memory;
 
 use cells::rows::Row;
 use cells::types::Cell;
-use hash_store::store::HashStore;
-use hash_store::store::calls::HashStoreStore;
-use sorted_store::store::SortedStore;
-use sorted_store::store::calls::SortedStoreStore;
+use hash_store::index::calls::HashIndex;
+use six_tables::Index;
+use six_tables::store::SixTables;
+use six_tables::store::calls::SixTablesStore;
+use sorted_store::index::calls::SortedIndex;
 use std::io;
 use stores::Store;
 
@@ -38,24 +39,7 @@ struct Drained {
 }
 
 // Asks for the rows of the key 0 until there is none.
-fn drain_hash(store: &HashStore) -> Drained {
-    let mut after = 0;
-    let mut visited: usize = 0;
-    for rows in 0..ROWS {
-        let probed = store.probe(0, 1, Cell::Number(0), after);
-        visited = visited.saturating_add(probed.visited);
-        match probed.row {
-            Some(n) => after = n,
-            None => return Drained { rows, visited },
-        }
-    }
-    Drained {
-        rows: ROWS,
-        visited,
-    }
-}
-
-fn drain_sorted(store: &SortedStore) -> Drained {
+fn drain<T: Index>(store: &SixTables<T>) -> Drained {
     let mut after = 0;
     let mut visited: usize = 0;
     for rows in 0..ROWS {
@@ -80,10 +64,10 @@ fn main(rt: LibcRuntime) -> io::Result<()> {
         fill(&mut hash, keys);
         let mut sorted = memory::sorted(rt.alloc())?;
         fill(&mut sorted, keys);
-        let found = drain_hash(&hash);
+        let found = drain(&hash);
         let rows = found.rows;
         let by_hash = found.visited;
-        let by_order = drain_sorted(&sorted).visited;
+        let by_order = drain(&sorted).visited;
         println!(rt, "{keys} {rows} {by_hash} {by_order}")?;
     }
     Ok(())

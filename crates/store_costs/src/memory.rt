@@ -1,10 +1,9 @@
 // Stores with 1,024 places in table 0 and none in the others.
-ghost use Rattle.std.specs.Vec.{made};
-ghost use Rattle.sorted_store.specs.SortedStores.{Sound};
-use hash_store::store::HashStore;
+use hash_store::index::calls::HashIndex;
+use six_tables::store::SixTables;
 use sorted_index::entry::EntryClone;
+use sorted_store::index::calls::SortedIndex;
 use sorted_store::place::Place as SortedPlace;
-use sorted_store::store::SortedStore;
 use std::alloc::AllocError;
 use std::alloc::Global;
 
@@ -17,8 +16,8 @@ fn hash_table(heap: Global, wanted: usize) -> Result<hash_store::index::TableInd
     Ok(hash_store::index::TableIndex::new(wanted, places))
 }
 
-pub(crate) fn hash(heap: Global) -> Result<HashStore, AllocError> {
-    Ok(HashStore::of(
+pub(crate) fn hash(heap: Global) -> Result<SixTables<hash_store::index::TableIndex>, AllocError> {
+    Ok(SixTables::of(
         hash_table(heap, ROWS)?,
         hash_table(heap, 0)?,
         hash_table(heap, 0)?,
@@ -38,10 +37,10 @@ fn sorted_table(
     Ok(sorted_store::index::TableIndex::new(wanted, places, entries))
 }
 
-pub(crate) fn sorted(heap: Global) -> Result<SortedStore, AllocError>
-    ensures { λ r. ⌜ made r Sound ⌝ }
-{
-    Ok(SortedStore::of(
+pub(crate) fn sorted(
+    heap: Global,
+) -> Result<SixTables<sorted_store::index::TableIndex>, AllocError> {
+    Ok(SixTables::of(
         sorted_table(heap, ROWS, ENTRIES)?,
         sorted_table(heap, 0, 0)?,
         sorted_table(heap, 0, 0)?,

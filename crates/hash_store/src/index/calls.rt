@@ -1,15 +1,13 @@
-// What a table's index is asked: build, count, cell, stamp and next.
+// What a table's index is asked: build, count, cell, stamp and probe.
 ghost use mathlib.Core.Path.{_≡_};
 ghost use mathlib.Core.List.{[]};
 ghost use Prim.Native.Nat.{min};
-ghost use lib.ListN.{length};
 ghost use Rattle.std.specs.Of.Vec.{vec-len};
-ghost use Rattle.std.specs.Results.{isOk};
-ghost use Rattle.basis.specs.Lists.{numbered};
-ghost use Rattle.stores.specs.Tables.{cell-of, stamp-of, matches, next-after};
+ghost use Rattle.stores.specs.Tables.{matches, next-after};
 ghost use Rattle.hash_store.specs.Buckets.{or-zero, visits};
 ghost use Rattle.hash_store.specs.Chains.{Is-column};
-ghost use Rattle.hash_store.specs.Indexes.{table-of, is-open, built-in};
+ghost use Rattle.hash_store.specs.Costs.{Drain-law};
+ghost use Rattle.hash_store.specs.Indexes.{table-of};
 use super::TableIndex;
 use crate::adds::add;
 use crate::place::Place;
@@ -21,14 +19,9 @@ use cells::rows::Row;
 use cells::types::Cell;
 use keys::CodeKey;
 use keys::NumberKey;
+use six_tables::Index;
+use six_tables::Probed;
 use stores::BuildRefusal;
-
-// A question's answer, and how many places were looked at for it.
-#[derive(Clone, Copy)]
-pub struct Probed {
-    pub row: Option<usize>,
-    pub visited: usize,
-}
 
 impl TableIndex {
     // An empty table in the places given, with the least of the capacity wanted, 1,024 and the places.
@@ -45,10 +38,29 @@ impl TableIndex {
         }
     }
 
-    pub(crate) fn build(&mut self, row: Row, stamp: u64) -> Result<(), BuildRefusal>
-        ensures after { λ r. ⌜ table-of (now (self .exit)) ≡ built-in (table-of (now (self .entry))) row stamp ⌝ }
-        ensures answer { λ r. ⌜ isOk r ≡ is-open (table-of (now (self .entry))) ⌝ }
+    // Where a walk ends for a column that an index can have.
+    fn seek(&self, column: usize, key: Cell, after: usize) -> Walked
+        requires { ⌜ Is-column column ⌝ }
+        ensures row { λ r. ⌜ r .row ≡ or-zero (next-after (matches column key) after (table-of (now (self .entry)) .rows)) ⌝ }
+        ensures visited { λ r. ⌜ r .visited ≡ visits (table-of (now (self .entry)) .rows) column key after ⌝ }
     {
+        let places: &[Place] = &self.places;
+        let b = bucket(&key);
+        let start = start_at(places, &self.heads, self.count, column, b, after);
+        match key {
+            Cell::Number(z) => walk(places, self.count, &start, column, &z, after),
+            Cell::Code(c) => walk(places, self.count, &start, column, &c, after),
+        }
+    }
+}
+
+pub impl Index for TableIndex as HashIndex {
+    ghost table = { table-of };
+
+    // The places that a question looks at are those of `visits`.
+    ghost costs = { λ rows column key after visited. visited ≡ visits rows column key after };
+
+    fn build(&mut self, row: Row, stamp: u64) -> Result<(), BuildRefusal> {
         if self.count >= self.room {
             return Err(BuildRefusal::Full);
         }
@@ -64,15 +76,11 @@ impl TableIndex {
         Ok(())
     }
 
-    pub(crate) fn count(&self) -> usize
-        ensures value { λ r. ⌜ r ≡ length (table-of (now (self .entry)) .rows) ⌝ }
-    {
+    fn count(&self) -> usize {
         self.count
     }
 
-    pub(crate) fn cell(&self, row: usize, column: usize) -> Option<Cell>
-        ensures value { λ r. ⌜ r ≡ cell-of (numbered (table-of (now (self .entry)) .rows) row) column ⌝ }
-    {
+    fn cell(&self, row: usize, column: usize) -> Option<Cell> {
         if row == 0 {
             return None;
         }
@@ -82,9 +90,7 @@ impl TableIndex {
         self.places[row - 1].row.cell(column)
     }
 
-    pub(crate) fn stamp(&self, row: usize) -> Option<u64>
-        ensures value { λ r. ⌜ r ≡ stamp-of (numbered (table-of (now (self .entry)) .rows) row) ⌝ }
-    {
+    fn stamp(&self, row: usize) -> Option<u64> {
         if row == 0 {
             return None;
         }
@@ -94,24 +100,10 @@ impl TableIndex {
         Some(self.places[row - 1].stamp)
     }
 
-    // Where a walk ends for a column that an index can have.
-    fn seek(&self, column: usize, key: Cell, after: usize) -> Walked
-        requires { ⌜ Is-column column ⌝ }
-        ensures row { λ r. ⌜ r .row ≡ or-zero (next-after (matches column key) after (table-of (now (self .entry)) .rows)) ⌝ }
-        ensures visited { λ r. ⌜ r .visited ≡ visits (table-of (now (self .entry)) .rows) column key after ⌝ }
-    {
-        let places: &[Place] = &self.places;
-        let b = bucket(&key);
-        let start = start_at(places, &self.heads, self.count, column, b, after);
-        match key {
-            Cell::Number(z) => walk(places, self.count, &start, column, &z, after),
-            Cell::Code(c) => walk(places, self.count, &start, column, &c, after),
-        }
-    }
-
-    pub(crate) fn probe(&self, column: usize, key: Cell, after: usize) -> Probed
+    fn probe(&self, column: usize, key: Cell, after: usize) -> Probed
         ensures value { λ r. ⌜ r .row ≡ next-after (matches column key) after (table-of (now (self .entry)) .rows) ⌝ }
         ensures cost { λ r. ⌜ r .visited ≡ visits (table-of (now (self .entry)) .rows) column key after ⌝ }
+        ensures law { λ r. ⌜ Drain-law ⌝ }
     {
         if column == 0 || column > 6 {
             return Probed {

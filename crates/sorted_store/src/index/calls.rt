@@ -1,23 +1,20 @@
-// What a table's indexes are asked: build, count, cell, stamp and next.
+// What a table's indexes are asked: build, count, cell, stamp and probe.
 ghost use mathlib.Core.Path.{_≡_};
 ghost use mathlib.Core.List.{[]};
 ghost use Prim.Native.Nat.{min, _/_};
-ghost use lib.ListN.{length};
 ghost use Rattle.std.specs.Of.Vec.{vec-len};
-ghost use Rattle.std.specs.Results.{isOk};
-ghost use Rattle.basis.specs.Lists.{numbered};
-ghost use Rattle.stores.specs.Tables.{cell-of, stamp-of, matches, next-after};
 ghost use Rattle.sorted_index.specs.Sorting.{Logarithmic};
 ghost use Rattle.sorted_store.specs.Columns.{having};
-ghost use Rattle.sorted_store.specs.Indexes.{table-of, is-open, built-in};
+ghost use Rattle.sorted_store.specs.Indexes.{table-of};
 use super::TableIndex;
 use crate::columns::add_row;
 use crate::columns::probe_column;
 use crate::place::Place;
 use cells::rows::Row;
 use cells::types::Cell;
+use six_tables::Index;
+use six_tables::Probed;
 use sorted_index::entry::Entry;
-use sorted_index::entry::Probed;
 use stores::BuildRefusal;
 
 impl TableIndex {
@@ -35,11 +32,15 @@ impl TableIndex {
             room,
         }
     }
+}
 
-    pub(crate) fn build(&mut self, row: Row, stamp: u64) -> Result<(), BuildRefusal>
-        ensures after { λ r. ⌜ table-of (now (self .exit)) ≡ built-in (table-of (now (self .entry))) row stamp ⌝ }
-        ensures answer { λ r. ⌜ isOk r ≡ is-open (table-of (now (self .entry))) ⌝ }
-    {
+pub impl Index for TableIndex as SortedIndex {
+    ghost table = { table-of };
+
+    // A question is a binary search among the rows that have a cell in the column.
+    ghost costs = { λ rows column key after visited. Logarithmic (having column rows) visited };
+
+    fn build(&mut self, row: Row, stamp: u64) -> Result<(), BuildRefusal> {
         if self.count >= self.room {
             return Err(BuildRefusal::Full);
         }
@@ -55,15 +56,11 @@ impl TableIndex {
         Ok(())
     }
 
-    pub(crate) fn count(&self) -> usize
-        ensures value { λ r. ⌜ r ≡ length (table-of (now (self .entry)) .rows) ⌝ }
-    {
+    fn count(&self) -> usize {
         self.count
     }
 
-    pub(crate) fn cell(&self, row: usize, column: usize) -> Option<Cell>
-        ensures value { λ r. ⌜ r ≡ cell-of (numbered (table-of (now (self .entry)) .rows) row) column ⌝ }
-    {
+    fn cell(&self, row: usize, column: usize) -> Option<Cell> {
         if row == 0 {
             return None;
         }
@@ -73,9 +70,7 @@ impl TableIndex {
         self.places[row - 1].row.cell(column)
     }
 
-    pub(crate) fn stamp(&self, row: usize) -> Option<u64>
-        ensures value { λ r. ⌜ r ≡ stamp-of (numbered (table-of (now (self .entry)) .rows) row) ⌝ }
-    {
+    fn stamp(&self, row: usize) -> Option<u64> {
         if row == 0 {
             return None;
         }
@@ -85,10 +80,11 @@ impl TableIndex {
         Some(self.places[row - 1].stamp)
     }
 
-    pub(crate) fn probe(&self, column: usize, key: Cell, after: usize) -> Probed
-        ensures value { λ r. ⌜ r .row ≡ next-after (matches column key) after (table-of (now (self .entry)) .rows) ⌝ }
-        ensures cost { λ r. ⌜ Logarithmic (having column (table-of (now (self .entry)) .rows)) (r .visited) ⌝ }
-    {
-        probe_column(&self.entries, &self.filled, self.room, column, key, after)
+    fn probe(&self, column: usize, key: Cell, after: usize) -> Probed {
+        let found = probe_column(&self.entries, &self.filled, self.room, column, key, after);
+        Probed {
+            row: found.row,
+            visited: found.visited,
+        }
     }
 }
