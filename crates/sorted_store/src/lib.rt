@@ -1,4 +1,4 @@
-// A store that finds rows by binary search, in a caller's places, with a sorted index for each column.
+// An index that finds a table's rows by binary search: a caller's places, with a sorted list for each column.
 mod columns;
 pub mod index;
 pub mod place;
