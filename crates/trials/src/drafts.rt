@@ -1,4 +1,4 @@
-// Each refusal of a draft and of a row, met once. A refused call changes nothing, so one draft serves for several.
+// Each refusal of a draft and of a row, met at least once. A refused call changes nothing, so one draft serves for several.
 use crate::pair;
 use crate::say;
 use crate::star;

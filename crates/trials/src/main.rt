@@ -1,4 +1,4 @@
-// Trials: spellings, values and answers that are known beforehand, and each refusal of a heading, a draft and a row met once.
+// Trials: spellings, values and answers that are known beforehand, and each refusal of a heading, a draft and a row met.
 mod answers;
 mod drafts;
 mod spellings;
