@@ -1,4 +1,6 @@
 // Words that every layer's contracts share: definitions and lemmas, and the one function that they all read lists by.
+#![tactic(auto)]
+
 ghost use Rattle.std.specs.Prelude.{◌≡◌};
 ghost use Rattle.basis.specs.Lists.{numbered};
 

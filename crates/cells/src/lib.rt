@@ -1,4 +1,6 @@
 // Cells and what is made of them: kinds, lawfulness, headings and rows.
+#![tactic(auto)]
+
 ghost use Rattle.std.specs.Prelude.{◌≡◌, nat_eq};
 ghost use Rattle.basis.specs.Lists.{all};
 ghost use Rattle.cells.specs.Cells.{lawful_number, code_byte, lawful_code, lawful, kind_of, same_kind, fits, blank, read_cell};

@@ -1,4 +1,6 @@
 // A test store, outside the product's path: it counts the questions that it is asked.
+#![tactic(auto)]
+
 ghost use Rattle.std.specs.Prelude.{◌≡◌, replicate, slice_index};
 ghost use Rattle.stores.specs.Tables.{next_row};
 ghost use Rattle.counting.specs.Counts.{one_more};

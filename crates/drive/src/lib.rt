@@ -1,4 +1,6 @@
 // Driving a run: steps up to a budget, with each ready line taken and posted. The contract carries the law of a run.
+#![tactic(auto)]
+
 ghost use Rattle.std.specs.Prelude.{◌≡◌};
 ghost use Rattle.routing.specs.Steps.{policy_of};
 ghost use Rattle.law.specs.Law.{RunLaw, BesideTheLaw};

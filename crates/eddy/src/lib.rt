@@ -1,4 +1,6 @@
 // The run of a query: rows are fed to it, steps move its tuples on, and ready lines are taken and posted.
+#![tactic(auto)]
+
 pub mod counts;
 pub mod run;
 pub mod types;

@@ -1,4 +1,6 @@
 // Expressions as prefix lists of items: the check of one, and its value over cells.
+#![tactic(auto)]
+
 ghost use Rattle.std.specs.Prelude.{◌≡◌, true, Decides};
 ghost use Rattle.expressions.specs.Expressions.{TreeOfIsExact, WellFormed, well_formed, value_of};
 ghost use Rattle.expressions.specs.Readings.{cells_read};

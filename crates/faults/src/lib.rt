@@ -1,4 +1,6 @@
 // What can end a program over this library: one error type, so that `?` serves for every call.
+#![tactic(auto)]
+
 ghost use Rattle.std.specs.Prelude.{◌≡◌};
 ghost use Rattle.faults.specs.declared.Fault.TheVariants as fault;
 ghost use Rattle.query.specs.declared.types.DraftError.TheVariants as draft;

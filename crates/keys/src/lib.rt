@@ -1,4 +1,6 @@
 // The kinds of key that an index is written for: numbers, codes, and cells of either kind.
+#![tactic(auto)]
+
 ghost use Rattle.std.specs.Prelude.{◌≡◌, ℕ, Bool, true, Some, Decides, Option};
 ghost use Rattle.cells.specs.declared.types.Cell.{Cell};
 ghost use Rattle.keys.specs.Keys.{same_cell, less_cell, is_key};

@@ -1,4 +1,6 @@
 // The law of a run: what holds of every history of a query that a draft made, whatever the policy.
+#![tactic(auto)]
+
 ghost use Rattle.std.specs.Prelude.{◌≡◌, true};
 ghost use Rattle.query.specs.Lawful.{Lawful};
 ghost use Rattle.query.specs.Queries.{Query};

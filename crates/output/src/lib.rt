@@ -1,4 +1,6 @@
 // Writing a line into a caller's buffer, from a place on.
+#![tactic(auto)]
+
 ghost use Rattle.std.specs.Prelude.{◌≡◌, ◌+◌, ◌≤◌, [], ◌∷◌, length, is_ok, if◌then◌else◌, nat_le};
 ghost use Rattle.rules.specs.Calls.{laid};
 ghost use Rattle.output.specs.Puts.{Puts};

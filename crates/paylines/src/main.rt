@@ -1,4 +1,6 @@
 // Overtime of a small day: rows are accepted or refused, and the nested loops answer the query.
+#![tactic(auto)]
+
 mod day;
 mod draws;
 mod memory;

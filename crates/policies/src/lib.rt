@@ -1,4 +1,6 @@
 // Routing policies: the promises that the engine is proved against, and the policies that are built in.
+#![tactic(auto)]
+
 ghost use Rattle.std.specs.Prelude.{◌≡◌, ℕ, ◌≤◌, Bool, true, List, length};
 ghost use Rattle.policies.specs.declared.News.{News};
 ghost use Rattle.policies.specs.Modules.{has, Empty};

@@ -1,4 +1,6 @@
 // Why a heading, a draft or a row is refused, and by which number.
+#![tactic(auto)]
+
 ghost use Rattle.std.specs.Prelude.{◌≡◌};
 ghost use Rattle.refusals.specs.Refusals.{heading_refusal_number, refusal_number, row_refusal_number};
 ghost use Rattle.refusals.specs.declared.DraftError.TheVariants.{Memory};

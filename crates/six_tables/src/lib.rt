@@ -1,4 +1,6 @@
 // A store of six tables, each kept by an index of its own.
+#![tactic(auto)]
+
 ghost use Rattle.std.specs.Prelude.{◌≡◌, ℕ, ◌≤◌, List, [], length, is_ok};
 ghost use Rattle.basis.specs.Lists.{numbered};
 ghost use Rattle.cells.specs.declared.types.Cell.{Cell};

@@ -1,4 +1,6 @@
 // A sorted index over a slice of entries, for any kind of key: insertion by shifting, search by halving.
+#![tactic(auto)]
+
 ghost use Rattle.std.specs.Prelude.{◌≡◌, ℕ, ◌-◌, ◌<◌, ◌≤◌, true, ◌∷◌, ◌++◌, length, take, drop};
 ghost use Rattle.std.specs.List.{prefix_len};
 ghost use Rattle.sorted_index.specs.Sorting.{sorted, inserted, all_but_last, Logarithmic};

@@ -1,4 +1,6 @@
 // Cells as bytes: each cell's spelling, and the exact reading of a spelling.
+#![tactic(auto)]
+
 ghost use Rattle.std.specs.Prelude.{◌≡◌, true, Some};
 ghost use Rattle.basis.specs.Reading.{Exactly};
 ghost use Rattle.cells.specs.Cells.{kind_of, lawful};

@@ -1,4 +1,6 @@
 // Prints how many places are looked at to drain the rows of one key, of 1,024 rows with few and with many equal keys.
+#![tactic(auto)]
+
 mod memory;
 
 use cells::rows::Row;

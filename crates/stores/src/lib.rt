@@ -1,4 +1,6 @@
 // The interface of a store: the rows built of each table, and the questions that an engine asks about them.
+#![tactic(auto)]
+
 ghost use Rattle.std.specs.Prelude.{◌≡◌, true, List, length, is_ok};
 ghost use Rattle.stores.specs.Tables.{Table, WithinRoom, count_at, stamp_at, cell_at, has_room, built, next_row};
 ghost use Rattle.stores.specs.Laws.{StoreLaws};

@@ -1,4 +1,6 @@
 // Trials: spellings, values and answers that are known beforehand, and each refusal of a heading, a draft and a row met.
+#![tactic(auto)]
+
 mod answers;
 mod drafts;
 mod spellings;
