@@ -1,5 +1,5 @@
 -- How an `Exactly` is shown, and what it says at None.
-use Rattle.std.proofs.Common.{◌≡◌, ℕ, Some, None, Option, ap, subst, arith}
+use Rattle.std.proofs.Common.{◌≡◌, ℕ, Some, None, ap, subst, arith}
 use Rattle.basis.specs.Reading.{Exactly}
 
 pub exactly_some : {X : Type 0} (P : X → Type 0) (x : X) → P x → ((y : X) → P y → x ≡ y) → Exactly (Some x) P

@@ -1,5 +1,5 @@
 -- A row's cells.
-use Rattle.std.specs.Prelude.{ℕ, List, take}
+use Rattle.std.specs.Prelude.{List, take}
 use Rattle.cells.specs.declared.types.Cell.{Cell}
 use Rattle.cells.specs.declared.rows.Row.{Row}
 

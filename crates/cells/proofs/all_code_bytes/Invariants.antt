@@ -1,4 +1,4 @@
-use Rattle.std.proofs.Common.{◌≡◌, true, eqb, take}
+use Rattle.std.proofs.Common.{◌≡◌, true, take}
 use Rattle.basis.specs.Lists.{all}
 use Rattle.cells.specs.Cells.{code_byte}
 use Rattle.cells.proofs.all_code_bytes.Given as goal

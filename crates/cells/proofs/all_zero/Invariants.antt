@@ -1,6 +1,5 @@
 use Rattle.std.proofs.Common.{◌≡◌, true, eqb, take}
 use Rattle.basis.specs.Lists.{all}
-use Rattle.cells.specs.Cells.{code_byte}
 use Rattle.cells.proofs.all_zero.Given as goal
 
 abbrev pub invariant-loop-b : goal.invariant-loop-b
