@@ -1,5 +1,5 @@
 -- Digits with no leading zero, and the number that they spell.
-use Rattle.std.proofs.Common.{◌≡◌, ℕ, ◌+◌, ◌-◌, ◌^◌, ◌<◌, ◌≤◌, ◌⊎◌, List, length, get_or, take, decimal, sym, ap, ◌∙◌, subst, ⊎_elim, arith, lit<, length-take, rules}
+use Rattle.std.proofs.Common.{◌≡◌, ℕ, ◌+◌, ◌^◌, ◌<◌, ◌≤◌, List, length, get_or, take, decimal, sym, ap, ◌∙◌, subst, ⊎_elim, arith, lit<, length-take, rules}
 use native.Mathlib.Nat.{pow-le-pow_right}
 use Rattle.std.specs.Str.Parse.{digits_value, AllDigits}
 use Rattle.std.specs.Char.{digit_value as digitValue}

@@ -28,11 +28,11 @@ returns-then-b-lt48 c =
       ]);
     }
 
-pub overflow-mul-n : goal.overflow-mul-n
-overflow-mul-n c = omega (arith, value_short c.args.s.now c.loop-b.b-index c.loop-b.invariant.0 c.if-s-gt12.false c.loop-b-test.true)
+pub overflow_mul-n : goal.overflow_mul-n
+overflow_mul-n c = omega (arith, value_short c.args.s.now c.loop-b.b-index c.loop-b.invariant.0 c.if-s-gt12.false c.loop-b-test.true)
 
-pub overflow-add-n : goal.overflow-add-n
-overflow-add-n c = omega (arith, value_short c.args.s.now c.loop-b.b-index c.loop-b.invariant.0 c.if-s-gt12.false c.loop-b-test.true)
+pub overflow_add-n : goal.overflow_add-n
+overflow_add-n c = omega (arith, value_short c.args.s.now c.loop-b.b-index c.loop-b.invariant.0 c.if-s-gt12.false c.loop-b-test.true)
 
 pub loop-b-preserved : goal.loop-b-preserved
 loop-b-preserved c =

@@ -9,20 +9,20 @@ use Rattle.spelling.proofs.reads.read_code.Goals as goal
 abbrev code : List ℕ → ℕ → Code
 code bytes n = record { bytes = bytes; len = n }
 
-pub returns-then-is-lawful : goal.returns-then-is-lawful
-returns-then-is-lawful c =
+pub returns-then-is_lawful : goal.returns-then-is_lawful
+returns-then-is_lawful c =
     let s = c.args.s.now in
     let is : code c.padded.result (length s) ≡ code_of s = ap (λ bs. code bs (length s)) c.padded.ensures.value in
     record {
       value = exactly_some (SpellsCode s) (code c.padded.result (length s))
-          (sym c.if-is-lawful.ensures.value, ap code_text is ∙ code_of_text s) (λ d q. is ∙ sym (code_is s d q));
+          (sym c.if-is_lawful.ensures.value, ap code_text is ∙ code_of_text s) (λ d q. is ∙ sym (code_is s d q));
     }
 
-pub returns-else-is-lawful : goal.returns-else-is-lawful
-returns-else-is-lawful c =
+pub returns-else-is_lawful : goal.returns-else-is_lawful
+returns-else-is_lawful c =
     let s = c.args.s.now in
     let is : code c.padded.result (length s) ≡ code_of s = ap (λ bs. code bs (length s)) c.padded.ensures.value in
     record {
       value = exactly_none (SpellsCode s) (λ d q.
-          both_ways (lawful_code (code c.padded.result (length s))) (sym c.if-is-lawful.ensures.value) (ap lawful_code (is ∙ sym (code_is s d q)) ∙ q.0));
+          both_ways (lawful_code (code c.padded.result (length s))) (sym c.if-is_lawful.ensures.value) (ap lawful_code (is ∙ sym (code_is s d q)) ∙ q.0));
     }

@@ -9,14 +9,14 @@ use Rattle.spelling.proofs.reads.read_number.Goals as goal
 minus : (s : List ℕ) → 0 < length s → get_or s 0 0 ≡ 45 → s ≡ 45 ∷ take (length s - 1) (drop 1 s)
 minus s some e = first_rest s 0 some ∙ ap (λ b. b ∷ take (length s - 1) (drop 1 s)) e
 
-pub overflow-cast-result : goal.overflow-cast-result
-overflow-cast-result c = omega (arith, ints, ((c.in-Some.ensures.value c.in-Some.n).0 refl).0)
+pub overflow_cast-result : goal.overflow_cast-result
+overflow_cast-result c = omega (arith, ints, ((c.in-Some.ensures.value c.in-Some.n).0 refl).0)
 
-pub overflow-sub-result : goal.overflow-sub-result
-overflow-sub-result c = omega (arith, ints, ((c.in-Some.ensures.value c.in-Some.n).0 refl).0)
+pub overflow_sub-result : goal.overflow_sub-result
+overflow_sub-result c = omega (arith, ints, ((c.in-Some.ensures.value c.in-Some.n).0 refl).0)
 
-pub overflow-cast-result-in-Some-read-natural : goal.overflow-cast-result-in-Some-read-natural
-overflow-cast-result-in-Some-read-natural c = omega (arith, ints, ((c.in-Some-read-natural.ensures.value c.in-Some-read-natural.n).0 refl).0)
+pub overflow_cast-result-in-Some-read_natural : goal.overflow_cast-result-in-Some-read_natural
+overflow_cast-result-in-Some-read_natural c = omega (arith, ints, ((c.in-Some-read_natural.ensures.value c.in-Some-read_natural.n).0 refl).0)
 
 pub returns-then-n-eq0 : goal.returns-then-n-eq0
 returns-then-n-eq0 c =
@@ -42,11 +42,11 @@ returns-in-None c =
     let t = take (length s - 1) (drop 1 s) in
     record { value = exactly_none (SpellsNumber s) (minus_none s t (minus s c.if-s-gt0.true c.if-s-eq45.true) (λ m q more. none_of (SpellsNatural t) c.in-None.ensures.value m q)) }
 
-pub returns-in-Some-read-natural : goal.returns-in-Some-read-natural
-returns-in-Some-read-natural c =
+pub returns-in-Some-read_natural : goal.returns-in-Some-read_natural
+returns-in-Some-read_natural c =
     let s = c.args.s.now in
-    let n = c.in-Some-read-natural.n in
-    let p : SpellsNatural s n = (c.in-Some-read-natural.ensures.value n).0 refl in
+    let n = c.in-Some-read_natural.n in
+    let p : SpellsNatural s n = (c.in-Some-read_natural.ensures.value n).0 refl in
     let is : to_z w64 n ≡ pos n = omega (arith, ints, p.0) in
     let q : SpellsNumber s (to_z w64 n) = subst (SpellsNumber s) (sym is) (plain_some s n p) in
     record { value = exactly_some (SpellsNumber s) _ q (λ z r. number_same s _ z q r) }

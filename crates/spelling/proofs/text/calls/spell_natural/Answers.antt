@@ -3,8 +3,8 @@ use Rattle.spelling.proofs.Digits.{digits_room, digits_step, digits_last}
 use Rattle.spelling.proofs.Texts.{take_last}
 use Rattle.spelling.proofs.text.calls.spell_natural.Goals as goal
 
-pub overflow-sub-from : goal.overflow-sub-from
-overflow-sub-from c =
+pub overflow_sub-from : goal.overflow_sub-from
+overflow_sub-from c =
     let l = c.loop-n in
     digits_room c.args.m l.n l.from l.bytes l.invariant.2 l.invariant.0 (omega arith) l.invariant.3
 
@@ -17,8 +17,8 @@ loop-n-preserved c =
       omega arith,
     )
 
-pub overflow-sub-from-2 : goal.overflow-sub-from-2
-overflow-sub-from-2 c =
+pub overflow_sub-from-2 : goal.overflow_sub-from-2
+overflow_sub-from-2 c =
     let l = c.loop-n in
     digits_room c.args.m l.n l.from l.bytes l.invariant.2 l.invariant.0 (omega arith) l.invariant.3
 

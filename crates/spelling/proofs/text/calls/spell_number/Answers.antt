@@ -13,19 +13,19 @@ room : (t : Text) (m : ℕ) → text_of t ≡ decimal m → t.to ≡ 20 → m �
 room t m e end most =
     omega (arith, length_text t, end, ap length e, length-decimal-le 19 m (lit< tt) (omega arith) (omega arith))
 
-pub overflow-sub-from : goal.overflow-sub-from
-overflow-sub-from c =
-    room c.spell-natural-digits.result c.unsigned-abs.result c.spell-natural-digits.ensures.value c.spell-natural-digits.ensures.end c.unsigned-abs.ensures.bound
+pub overflow_sub-from : goal.overflow_sub-from
+overflow_sub-from c =
+    room c.spell_natural-digits.result c.unsigned_abs.result c.spell_natural-digits.ensures.value c.spell_natural-digits.ensures.end c.unsigned_abs.ensures.bound
 
 pub returns : goal.returns
 returns c =
-    let t = c.spell-natural-digits.result in
+    let t = c.spell_natural-digits.result in
     let z = c.args.z in
     let bits = to_z-of_z w64 z c.ranges.z in
     record {
       value = take_last (set t.bytes (t.from - 1) 45) (t.from - 1) (length-set t.bytes (t.from - 1) 45 ∙ t.places)
-          ∙ drop_before t.bytes t.from 45 (room t c.unsigned-abs.result c.spell-natural-digits.ensures.value c.spell-natural-digits.ensures.end c.unsigned-abs.ensures.bound) (omega (arith, t.within, t.ordered, t.places))
-          ∙ ap (λ l. 45 ∷ l) (text_last t c.spell-natural-digits.ensures.end ∙ c.spell-natural-digits.ensures.value)
-          ∙ ap (λ n. 45 ∷ decimal n) (c.unsigned-abs.ensures.value ∙ ap nat_abs bits)
+          ∙ drop_before t.bytes t.from 45 (room t c.unsigned_abs.result c.spell_natural-digits.ensures.value c.spell_natural-digits.ensures.end c.unsigned_abs.ensures.bound) (omega (arith, t.within, t.ordered, t.places))
+          ∙ ap (λ l. 45 ∷ l) (text_last t c.spell_natural-digits.ensures.end ∙ c.spell_natural-digits.ensures.value)
+          ∙ ap (λ n. 45 ∷ decimal n) (c.unsigned_abs.ensures.value ∙ ap nat_abs bits)
           ∙ signed_minus z (subst (λ y. le_z (pos 0) y ≡ false) bits c.if-z-ge0.false);
     }
