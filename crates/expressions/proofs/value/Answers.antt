@@ -4,15 +4,15 @@ use Rattle.expressions.specs.Readings.{cells_read}
 use Rattle.expressions.proofs.Wholes.{no_tree, whole_tree, more_items}
 use Rattle.expressions.proofs.value.Goals as goal
 
-pub returns-in-err-value : goal.returns-in-err-value
-returns-in-err-value c =
-    record { value = c.from-residual.ensures ∙ no_tree (cells_read c.args.cells.now) c.args.items.now c.in-err-value.ensures.value }
+pub returns-in_err-value : goal.returns-in_err-value
+returns-in_err-value c =
+    record { value = c.from_residual.ensures ∙ no_tree (cells_read c.args.cells.now) c.args.items.now c.in_err-value.ensures.value }
 
 pub returns-then-end-items : goal.returns-then-end-items
 returns-then-end-items c =
-    let f : SFits w64 c.in-ok-value.value = search rules in
-    record { value = ap Some (to_z-of_z w64 c.in-ok-value.value f) ∙ whole_tree (cells_read c.args.cells.now) c.args.items.now c.in-ok-value.end c.in-ok-value.value c.in-ok-value.ensures.value c.if-items-gt-MOST-ITEMS.false c.if-end-items.true }
+    let f : SFits w64 c.in_ok-value.value = search rules in
+    record { value = ap Some (to_z-of_z w64 c.in_ok-value.value f) ∙ whole_tree (cells_read c.args.cells.now) c.args.items.now c.in_ok-value.end c.in_ok-value.value c.in_ok-value.ensures.value c.if-items-gt-MOST_ITEMS.false c.if-end-items.true }
 
 pub returns-else-end-items : goal.returns-else-end-items
 returns-else-end-items c =
-    record { value = more_items (cells_read c.args.cells.now) c.args.items.now c.in-ok-value.end c.in-ok-value.value c.in-ok-value.ensures.value c.if-end-items.false }
+    record { value = more_items (cells_read c.args.cells.now) c.args.items.now c.in_ok-value.end c.in_ok-value.value c.in_ok-value.ensures.value c.if-end-items.false }

@@ -12,5 +12,5 @@ pub returns : goal.returns
 unfolding zeros
 returns c =
     let items = c.args.items.now in
-    let is : c.is-some.result ≡ well_formed items = c.is-some.ensures ∙ ap is_some c.value.ensures.value ∙ value_some zeros items in
+    let is : c.is_some.result ≡ well_formed items = c.is_some.ensures ∙ ap is_some c.value.ensures.value ∙ value_some zeros items in
     record { value = is; law = subst (λ b. Decides b (WellFormed items)) (sym is) (well_formed_decides items) }

@@ -5,5 +5,5 @@ use Rattle.expressions.proofs.evaluation.+eval_eval_two.Given as goal
 abbrev pub decreases-eval : goal.decreases-eval
 decreases-eval l = 2 * (length l.items.now - l.at)
 
-abbrev pub decreases-eval-two : goal.decreases-eval-two
-decreases-eval-two l = 2 * (length l.items.now - l.at) + 1
+abbrev pub decreases-eval_two : goal.decreases-eval_two
+decreases-eval_two l = 2 * (length l.items.now - l.at) + 1
