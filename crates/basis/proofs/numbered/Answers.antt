@@ -6,7 +6,7 @@ pub returns-then-number-eq0 : goal.returns-then-number-eq0
 returns-then-number-eq0 g c = record { value = sym (numbered_zero c.args.xs.now c.args.number c.if-number-eq0.true) }
 
 pub returns-then-number-xs : goal.returns-then-number-xs
-returns-then-number-xs g c = record { value = sym (numbered_past c.args.xs.now c.args.number c.if-number-xs.true) }
+returns-then-number-xs g c = record { value = sym (numbered_past c.args.xs.now c.args.number (omega arith)) }
 
 pub returns : goal.returns
 returns g c =
