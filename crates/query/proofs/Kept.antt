@@ -1,11 +1,11 @@
 -- What every draft keeps to, kept by each granted call.
-use Rattle.std.proofs.Common.{◌≡◌, ℕ, zero, suc, ◌+◌, ◌<◌, ◌≤◌, Bool, true, false, cond, not, ◌&&◌, ◌||◌, eqb, ltb, List, [], ◌∷◌, ◌++◌, length, is_some, sym, refl, ap, ◌∙◌, subst, ⊎_elim, add-one, arith}
-use Rattle.std.proofs.lemmas.Bool.{both_ways, and_parts, and_from, or_cases, or_left, or_right, lt-ltb, eq-eqb, ne_eqb, not_from_false}
-use Rattle.basis.specs.Lists.{all, any, upto, numbered}
+use Rattle.std.proofs.Common.{◌≡◌, ℕ, zero, suc, ◌+◌, ◌<◌, true, false, not, ◌&&◌, eqb, ltb, List, [], ◌∷◌, ◌++◌, length, is_some, sym, refl, ◌∙◌, subst, ⊎_elim, add-one, arith}
+use Rattle.std.proofs.lemmas.Bool.{and_parts, and_from, or_cases, or_left, or_right, lt-ltb, eq-eqb, ne_eqb}
+use Rattle.basis.specs.Lists.{all, any, numbered}
 use Rattle.basis.proofs.Alls.{all_push, all_weaker, any-append-left, any_push}
 use Rattle.cells.specs.declared.types.Kind.{Kind}
 use Rattle.expressions.specs.declared.types.Column.{Column}
-use Rattle.query.specs.Queries.{column_kind, column_exists, same_kinds, both_exist, one_kind, two_tables, join_fits, to_earlier, linked, all_linked}
+use Rattle.query.specs.Queries.{column_kind, column_exists, same_kinds, join_fits, to_earlier, linked, all_linked}
 use Rattle.query.specs.declared.types.Join.{Join}
 use Rattle.query.proofs.Widened.{exists_inside, kind_more, kind_new, join_more}
 

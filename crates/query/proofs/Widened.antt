@@ -1,16 +1,15 @@
 -- Columns of a query's tables, and what one more table leaves as it was.
-use Rattle.std.proofs.Common.{◌≡◌, ℕ, zero, suc, ◌+◌, ◌<◌, ◌≤◌, Bool, true, false, ◌&&◌, List, [], ◌∷◌, ◌++◌, length, get_or, is_some, Some, None, Option, sym, refl, ap, ◌∙◌, subst, ⊎_elim, arith}
+use Rattle.std.proofs.Common.{◌≡◌, ℕ, zero, suc, ◌<◌, ◌≤◌, true, ◌&&◌, List, [], ◌∷◌, ◌++◌, length, is_some, Some, None, Option, refl, ap, ◌∙◌, ⊎_elim}
 use Rattle.std.proofs.lemmas.List.{get_or_past, get_or_append_left, get_or_push}
 use Rattle.std.proofs.lemmas.Bool.{both_ways, cases_lt, and_parts, and_from}
-use Rattle.basis.specs.Lists.{numbered, all}
+use Rattle.basis.specs.Lists.{numbered}
 use Rattle.basis.proofs.Alls.{all_weaker}
-use Rattle.basis.proofs.Counted.{numbered_past}
 use Rattle.cells.specs.declared.types.Kind.{Kind}
 use Rattle.cells.specs.declared.types.Kind.TheVariants as kind
 use Rattle.expressions.specs.declared.types.Column.{Column}
 use Rattle.expressions.specs.declared.types.Item.{Item}
 use Rattle.expressions.specs.declared.types.Item.TheVariants as item
-use Rattle.query.specs.Queries.{Condition, Projection, value, code, column_kind, column_exists, same_kinds, both_exist, one_kind, two_tables, join_fits, item_fits, columns_fit, condition_formed, condition_columns, condition_fits, projection_formed, projection_columns, projection_fits}
+use Rattle.query.specs.Queries.{Condition, Projection, value, code, column_kind, column_exists, same_kinds, both_exist, one_kind, two_tables, join_fits, item_fits, columns_fit, condition_formed, condition_columns, condition_fits, projection_formed, projection_fits}
 use Rattle.query.specs.declared.types.Join.{Join}
 
 no_kinds : (n : ℕ) → numbered {A = Kind} [] n ≡ None

@@ -1,5 +1,5 @@
 -- A query: its tables' headings, its joins, filters and shown things, and what every draft keeps to.
-use Rattle.std.specs.Prelude.{ℕ, Bool, true, false, not, ◌&&◌, ◌||◌, List, [], ◌∷◌, map, length, is_some, Some, None, vec_items, Option, ◌==◌, nat_lt, slice_index_or}
+use Rattle.std.specs.Prelude.{ℕ, Bool, true, false, not, ◌&&◌, ◌||◌, List, [], map, is_some, Some, None, vec_items, Option, ◌==◌, nat_lt, slice_index_or}
 use Rattle.basis.specs.Lists.{all, any, upto, numbered}
 use Rattle.cells.specs.Cells.{same_kind}
 use Rattle.cells.specs.Headings.{columns}

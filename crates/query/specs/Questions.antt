@@ -1,5 +1,5 @@
 -- The questions of a draft's calls, each with the number of its refusal, and what a granted call makes of the query.
-use Rattle.std.specs.Prelude.{◌≡◌, ℕ, Bool, ◌&&◌, List, [], ◌∷◌, ◌++◌, length, is_some, Some, None, Ok, Err, Option, Result, nat_lt}
+use Rattle.std.specs.Prelude.{◌≡◌, ℕ, ◌&&◌, List, [], ◌∷◌, ◌++◌, length, is_some, Some, None, Ok, Err, Option, Result, nat_lt}
 use Rattle.basis.specs.Lists.{numbered}
 use Rattle.basis.specs.Questions.{Question}
 use Rattle.cells.specs.declared.types.Kind.{Kind}

@@ -1,5 +1,5 @@
 -- Which rows are a table's: what a row is asked.
-use Rattle.std.specs.Prelude.{ℕ, Bool, true, false, ◌&&◌, List, [], ◌∷◌, length, ◌==◌, nat_lt, slice_index_or}
+use Rattle.std.specs.Prelude.{ℕ, Bool, true, ◌&&◌, List, [], ◌∷◌, length, ◌==◌, nat_lt, slice_index_or}
 use Rattle.basis.specs.Questions.{Question}
 use Rattle.cells.specs.Cells.{fits}
 use Rattle.cells.specs.declared.types.Kind.{Kind}

@@ -1,6 +1,5 @@
-use Rattle.std.proofs.Common.{[], map, sym, ap, ◌∙◌, arith}
-use Rattle.std.proofs.lemmas.List.{get_or-map, get_or_past, length-map}
-use Rattle.basis.proofs.Counted.{numbered_past}
+use Rattle.std.proofs.Common.{[], map, sym, ap, ◌∙◌}
+use Rattle.std.proofs.lemmas.List.{get_or-map, length-map}
 use Rattle.basis.specs.Lists.{numbered}
 use Rattle.cells.specs.Headings.{columns}
 use Rattle.query.proofs.Widened.{kind_past}

@@ -1,7 +1,5 @@
-use Rattle.std.proofs.Common.{◌≡◌, ◌+◌, Bool, true, false, ◌&&◌, get_or, drop, pos, sym, refl, ap, ◌∙◌}
-use Rattle.cells.specs.Cells.{fits}
+use Rattle.std.proofs.Common.{◌+◌, ◌&&◌, drop, sym, ap, ◌∙◌}
 use Rattle.cells.specs.Headings.{columns}
-use Rattle.cells.specs.declared.types.Cell.TheVariants.{Number}
 use Rattle.query.specs.Rows.{all_fit}
 use Rattle.query.proofs.Fitting.{fit_step, fit_past, fit_end}
 use Rattle.query.proofs.rows.all_fit.Goals as goal

@@ -1,26 +1,24 @@
-use Rattle.std.proofs.Common.{◌≡◌, ◌+◌, Bool, true, false, ◌&&◌, List, [], ◌∷◌, ◌++◌, map, length, is_some, vec_items, vec_len, sym, refl, ap, ◌∙◌, subst, arith}
+use Rattle.std.proofs.Common.{◌≡◌, ◌+◌, true, [], ◌∷◌, ◌++◌, map, length, is_some, vec_items, vec_len, sym, ap, ◌∙◌, arith}
 use Rattle.std.proofs.lemmas.List.{map_push, length-map}
 use Rattle.std.proofs.lemmas.Bool.{and_parts}
 use Rattle.basis.specs.Lists.{all, numbered}
 use Rattle.basis.proofs.Alls.{all_weaker}
 use Rattle.cells.specs.Headings.{columns}
-use Rattle.cells.specs.declared.types.Kind.{Kind}
 use Rattle.query.specs.Drafts.{query_of}
 use Rattle.query.specs.Queries.{condition, projection, column_exists, join_fits, condition_fits, projection_fits, all_linked}
-use Rattle.query.specs.declared.types.Join.{Join}
 use Rattle.query.proofs.Granted.{TableGranted, table_granted}
 use Rattle.query.proofs.Kept.{new_fits, new_linked, table_joined}
 use Rattle.query.proofs.Widened.{condition_more, projection_more}
 use Rattle.query.proofs.drafts.Draft.push_table.Goals as goal
 
-pub push-reserved-requires-2 : goal.push-reserved-requires-2
-push-reserved-requires-2 c =
+pub push_reserved-requires-2 : goal.push_reserved-requires-2
+push_reserved-requires-2 c =
     let d = c.args.self.now in
     let p = table_granted (query_of d) (columns c.args.heading) c.args.to c.args.own c.requires in
     omega (arith, d.room, d.headings.ok.0, p.tables, length-map (vec_items d.headings) columns)
 
-pub invariant-of-self : goal.invariant-of-self
-invariant-of-self c =
+pub invariant_of-self : goal.invariant_of-self
+invariant_of-self c =
     let d = c.args.self.now in
     let to = c.args.to in
     let own = c.args.own in
@@ -31,27 +29,19 @@ invariant-of-self c =
     let exists : column_exists hs to ≡ true = (and_parts (column_exists hs to) (is_some (numbered ks own)) p.exist).0 in
     let n : c.tables.result ≡ length hs = c.tables.ensures.value in
     let l = length-map (vec_items d.headings) columns in
-    let wide : map columns (vec_items c.push-reserved-2.new.self) ≡ hs ++ ks ∷ [] =
-    ap (map columns) c.push-reserved-2.ensures.items ∙ map_push columns (vec_items d.headings) c.args.heading in
-    let joins : vec_items c.push-reserved.new.self ≡ js ++ record { left = to; right = record { table = length hs; column = own } } ∷ [] =
-    c.push-reserved.ensures.items ∙ ap (λ t. js ++ record { left = to; right = record { table = t; column = own } } ∷ []) n in
-    let long : vec_len c.push-reserved-2.new.self ≡ length hs + 1 = omega (arith, c.push-reserved-2.ensures.len, d.headings.ok.0, l) in
-    let same : vec_len d.headings ≡ length hs = omega (arith, d.headings.ok.0, l) in (
-      omega (arith, d.limits, d.headings.ok.0, d.joins.ok.0, p.tables, p.joins, l, c.push-reserved.ensures.len, c.push-reserved-2.ensures.len),
-      (
-        omega (arith, d.room, c.push-reserved.ensures.capacity, c.push-reserved-2.ensures.capacity),
-        (
-          (λ i. all (join_fits (wide i)) (joins i)) ∙ table_joined hs js d.joined ks _ (new_fits hs ks to own p.exist p.alike),
-          (
-            (λ i. all_linked (long i) (joins i)) ∙ new_linked hs ks to own js exists (ap (λ m. all_linked m js) (sym same) ∙ d.linked),
-            (
-              ap (λ x. all (condition_fits x) (map condition (vec_items d.filters))) wide ∙ all_weaker (condition_fits hs) (condition_fits (hs ++ ks ∷ [])) (condition_more hs ks) (map condition (vec_items d.filters)) d.selected,
-              (ap (λ x. all (projection_fits x) (map projection (vec_items d.shown))) wide ∙ all_weaker (projection_fits hs) (projection_fits (hs ++ ks ∷ [])) (projection_more hs ks) (map projection (vec_items d.shown)) d.projected, tt),
-            ),
-          ),
-        ),
-      ),
-    )
+    let wide : map columns (vec_items c.push_reserved-2.new.self) ≡ hs ++ ks ∷ [] =
+    ap (map columns) c.push_reserved-2.ensures.items ∙ map_push columns (vec_items d.headings) c.args.heading in
+    let joins : vec_items c.push_reserved.new.self ≡ js ++ record { left = to; right = record { table = length hs; column = own } } ∷ [] =
+    c.push_reserved.ensures.items ∙ ap (λ t. js ++ record { left = to; right = record { table = t; column = own } } ∷ []) n in
+    let long : vec_len c.push_reserved-2.new.self ≡ length hs + 1 = omega (arith, c.push_reserved-2.ensures.len, d.headings.ok.0, l) in
+    let same : vec_len d.headings ≡ length hs = omega (arith, d.headings.ok.0, l) in record {
+      limits = omega (arith, d.limits, d.headings.ok.0, d.joins.ok.0, p.tables, p.joins, l, c.push_reserved.ensures.len, c.push_reserved-2.ensures.len);
+      room = omega (arith, d.room, c.push_reserved.ensures.capacity, c.push_reserved-2.ensures.capacity);
+      joined = (λ i. all (join_fits (wide i)) (joins i)) ∙ table_joined hs js d.joined ks _ (new_fits hs ks to own p.exist p.alike);
+      linked = (λ i. all_linked (long i) (joins i)) ∙ new_linked hs ks to own js exists (ap (λ m. all_linked m js) (sym same) ∙ d.linked);
+      selected = ap (λ x. all (condition_fits x) (map condition (vec_items d.filters))) wide ∙ all_weaker (condition_fits hs) (condition_fits (hs ++ ks ∷ [])) (condition_more hs ks) (map condition (vec_items d.filters)) d.selected;
+      projected = ap (λ x. all (projection_fits x) (map projection (vec_items d.shown))) wide ∙ all_weaker (projection_fits hs) (projection_fits (hs ++ ks ∷ [])) (projection_more hs ks) (map projection (vec_items d.shown)) d.projected;
+    }
 
 pub returns : goal.returns
 returns c =
@@ -61,8 +51,8 @@ returns c =
     let n : c.tables.result ≡ length hs = c.tables.ensures.value in
     record {
       after = λ i. record {
-        headings = (ap (map columns) c.push-reserved-2.ensures.items ∙ map_push columns (vec_items d.headings) c.args.heading) i;
-        joins = (c.push-reserved.ensures.items ∙ ap (λ t. js ++ record { left = c.args.to; right = record { table = t; column = c.args.own } } ∷ []) n) i;
+        headings = (ap (map columns) c.push_reserved-2.ensures.items ∙ map_push columns (vec_items d.headings) c.args.heading) i;
+        joins = (c.push_reserved.ensures.items ∙ ap (λ t. js ++ record { left = c.args.to; right = record { table = t; column = c.args.own } } ∷ []) n) i;
         filters = map condition (vec_items d.filters);
         shown = map projection (vec_items d.shown);
       };
