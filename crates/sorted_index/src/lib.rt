@@ -20,14 +20,14 @@ struct Sought {
 
 // Does a come before b, or share its place?
 fn at_or_before<K: Key>(a: &Entry<K>, b: &Entry<K>) -> bool
-    ensures value { result ≡ at_or_before less equals a.now b.now }
+    ensures value { result ≡ at_or_before K.less K.equals a.now b.now }
 {
     a.key.before(&b.key) || (a.key.same(&b.key) && a.row <= b.row)
 }
 
 // How many entries come before the bound, or share its place: by binary search.
 fn seek<K: Key>(entries: &[Entry<K>], bound: &Entry<K>) -> Sought
-    ensures value { sorted (at_or_before less equals) entries.now ≡ true → result.rank ≡ prefix_len (λ e. at_or_before less equals e bound.now) entries.now }
+    ensures value { sorted (at_or_before K.less K.equals) entries.now ≡ true → result.rank ≡ prefix_len (λ e. at_or_before K.less K.equals e bound.now) entries.now }
     ensures within { result.rank ≤ length entries.now }
     ensures cost { Logarithmic (length entries.now) result.visited }
 {
@@ -48,7 +48,7 @@ fn seek<K: Key>(entries: &[Entry<K>], bound: &Entry<K>) -> Sought
 
 // The row of the entry at a place, if there is one and it has the key: the answer to a question whose bound leads to that place.
 fn row_at<K: Key>(entries: &[Entry<K>], at: usize, key: &K) -> Option<usize>
-    ensures value { (after : ℕ) → sorted (at_or_before less equals) entries.now ≡ true → at ≡ prefix_len (λ e. at_or_before less equals e (entry_of key.now after)) entries.now → Nearest (has_entry equals entries.now key.now) after result }
+    ensures value { (after : ℕ) → sorted (at_or_before K.less K.equals) entries.now ≡ true → at ≡ prefix_len (λ e. at_or_before K.less K.equals e (entry_of key.now after)) entries.now → Nearest (has_entry K.equals entries.now key.now) after result }
 {
     if at >= entries.len() {
         return None;
@@ -63,7 +63,7 @@ fn row_at<K: Key>(entries: &[Entry<K>], at: usize, key: &K) -> Option<usize>
 
 // The least row above `after` that has the key, if there is one.
 pub fn next<K: Key>(entries: &[Entry<K>], key: K, after: usize) -> Probed
-    ensures value { sorted (at_or_before less equals) entries.now ≡ true → Nearest (has_entry equals entries.now key) after result.row }
+    ensures value { sorted (at_or_before K.less K.equals) entries.now ≡ true → Nearest (has_entry K.equals entries.now key) after result.row }
     ensures cost { Logarithmic (length entries.now) result.visited }
 {
     let sought = seek(entries, &Entry { key, row: after });
@@ -89,7 +89,7 @@ fn shift_in<T: Copy>(xs: &mut [T], at: usize, x: T)
 // How many of the entries but the last come before an entry.
 fn place_of<K: Key>(entries: &[Entry<K>], entry: &Entry<K>) -> usize
     requires { 0 < length entries.now }
-    ensures value { sorted (at_or_before less equals) (all_but_last entries.now) ≡ true → result ≡ prefix_len (λ e. at_or_before less equals e entry.now) (all_but_last entries.now) }
+    ensures value { sorted (at_or_before K.less K.equals) (all_but_last entries.now) ≡ true → result ≡ prefix_len (λ e. at_or_before K.less K.equals e entry.now) (all_but_last entries.now) }
     ensures within { result < length entries.now }
 {
     seek(&entries[0..entries.len() - 1], entry).rank
@@ -98,7 +98,7 @@ fn place_of<K: Key>(entries: &[Entry<K>], entry: &Entry<K>) -> usize
 // The same as `insert`, where there is a place.
 fn insert_some<K: Key>(entries: &mut [Entry<K>], entry: Entry<K>)
     requires { 0 < length entries.old }
-    ensures after { sorted (at_or_before less equals) (all_but_last entries.old) ≡ true → entries.new ≡ inserted (at_or_before less equals) entry (all_but_last entries.old) }
+    ensures after { sorted (at_or_before K.less K.equals) (all_but_last entries.old) ≡ true → entries.new ≡ inserted (at_or_before K.less K.equals) entry (all_but_last entries.old) }
 {
     let at = place_of(entries, &entry);
     shift_in(entries, at, entry);
@@ -106,7 +106,7 @@ fn insert_some<K: Key>(entries: &mut [Entry<K>], entry: Entry<K>)
 
 // Puts an entry into its place among the others. The last place is free for it, and what it held is lost.
 pub fn insert<K: Key>(entries: &mut [Entry<K>], entry: Entry<K>)
-    ensures after { 0 < length entries.old → sorted (at_or_before less equals) (all_but_last entries.old) ≡ true → entries.new ≡ inserted (at_or_before less equals) entry (all_but_last entries.old) }
+    ensures after { 0 < length entries.old → sorted (at_or_before K.less K.equals) (all_but_last entries.old) ≡ true → entries.new ≡ inserted (at_or_before K.less K.equals) entry (all_but_last entries.old) }
 {
     if entries.len() > 0 {
         insert_some(entries, entry);

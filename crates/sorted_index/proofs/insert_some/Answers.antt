@@ -7,6 +7,6 @@ pub returns : goal.returns
 returns g c =
     record {
       after = λ s.
-          c.shift-in.ensures.after
-          ∙ inserted_there (at_or_before g.K.Key.less g.K.Key.equals) c.args.entry c.args.entries.now c.place-of-at.result c.place-of-at.ensures.within (c.place-of-at.ensures.value s);
+          c.shift_in.ensures.after
+          ∙ inserted_there (at_or_before g.K.Key.less g.K.Key.equals) c.args.entry c.args.entries.now c.place_of-at.result c.place_of-at.ensures.within (c.place_of-at.ensures.value s);
     }
