@@ -2,10 +2,11 @@
 use Rattle.std.specs.Prelude.{◌≡◌, ℕ, zero, suc, ◌+◌, ◌<◌, ◌≤◌, Bool, true, false, ltb, List, length, ◌==◌, nat_lt, refl}
 use Rattle.std.proofs.Common.{ap, ◌∙◌, ⊎_elim, mod-lt, add-one, arith}
 use Rattle.std.proofs.lemmas.Bool.{cases_Bool, cases_eq, cond-true, cond-false, lt-ltb, le-ltb, ltb-true, ltb-false, eq-eqb}
+use Rattle.policies.specs.declared.News.{News}
 use Rattle.policies.specs.declared.lottery.Lottery.{Lottery}
 use Rattle.policies.specs.Modules.{has, Empty}
 use Rattle.policies.specs.Xorshift.{xorshift}
-use Rattle.policies.specs.Tickets.{weight, share, weights_below, weights, drawn, draw_of, lottery_choice, lottery_chosen, Draws}
+use Rattle.policies.specs.Tickets.{weight, share, weights_below, weights, drawn, draw_of, lottery_choice, lottery_chosen, lottery_heard, Draws}
 use Rattle.policies.specs.Least.{member_below, least_none, least_some}
 
 pub weights_none : (tickets : List ℕ) (members : List Bool) → weights_below tickets members 0 ≡ 0
@@ -86,3 +87,7 @@ lottery_none l members none =
       least_none (λ m. ltb draw (weights_below l.tickets members (m + 1))) (λ k h. le-ltb draw (weights_below l.tickets members (k + 1)) (omega (arith, nothing (k + 1) none))),
       cond-true (weights l.tickets members == 0) l _ (eq-eqb (weights l.tickets members) 0 (nothing 14 none)),
     )
+
+-- news of what is no module changes nothing
+pub lottery_above : (l : Lottery) (news : News) (m : ℕ) → 14 ≤ m → lottery_heard l news m ≡ l
+lottery_above l news m high = cond-false (nat_lt m 14) _ l (le-ltb m 14 high)

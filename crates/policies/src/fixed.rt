@@ -4,7 +4,6 @@ ghost use Rattle.basis.specs.Lists.{all};
 ghost use Rattle.policies.specs.Modules.{has, least};
 ghost use Rattle.policies.specs.Order.{first_in, First, fixed_choice, padded, fixed_by, fixed_of, ChoosesBy};
 ghost use Rattle.policies.specs.Listed.{first_member, first_empty};
-ghost use Rattle.std.proofs.Common.{rules};
 
 use crate::{News, Policy};
 
@@ -97,7 +96,7 @@ impl Policy for Fixed {
 
     ghost none = { λ s members none. (first_empty s.order members none, refl) };
 
-    ghost above = { Prim.search rules };
+    ghost above = { λ s news m high. refl };
 
     fn choose(&mut self, members: &[bool; 14]) -> u8
         ensures value { result ≡ fixed_choice self.old members.now }

@@ -3,8 +3,7 @@ ghost use Rattle.std.specs.Prelude.{◌≡◌, ℕ, ◌<◌, ◌≤◌, true};
 ghost use Rattle.policies.specs.Modules.{has};
 ghost use Rattle.policies.specs.Xorshift.{xorshift};
 ghost use Rattle.policies.specs.Tickets.{lottery_of, share, weights, drawn, lottery_choice, lottery_chosen, lottery_heard, Draws};
-ghost use Rattle.policies.specs.Weights.{lottery_member, lottery_none};
-ghost use Rattle.std.proofs.Common.{rules};
+ghost use Rattle.policies.specs.Weights.{lottery_member, lottery_none, lottery_above};
 
 use crate::{News, Policy};
 
@@ -77,7 +76,7 @@ impl Policy for Lottery {
 
     ghost none = { λ s members none. lottery_none s members none };
 
-    ghost above = { Prim.search rules };
+    ghost above = { λ s news m high. lottery_above s news m high };
 
     fn choose(&mut self, members: &[bool; 14]) -> u8
         ensures value { result ≡ lottery_choice self.old members.now }

@@ -7,13 +7,10 @@ use Rattle.policies.specs.Listed.{first_listed, first_lowest, first_law}
 use Rattle.policies.proofs.fixed.first_of.Goals as goal
 use Rattle.policies.proofs.fixed.first_of.Goals.{else-m-lt14-via-then-m-lt14+else-members-m, else-m-lt14-via-else-m-lt14}
 
-pub returns-then-members-m : goal.returns-then-members-m
-returns-then-members-m c =
-    let list = c.args.order.now in
-    let members = c.args.members.now in
-    let i = c.loop-i.i in
-    let is = first_listed list members i (omega (arith, c.told-order, c.loop-i-test.true)) c.if-members-m.true c.loop-i.invariant in
-    record { value = sym is; law = subst (First list members) is (first_law list members) }
+pub returns-then-members-m-clause-value : goal.returns-then-members-m-clause-value
+returns-then-members-m-clause-value c =
+    let is = first_listed c.args.order.now c.args.members.now c.loop-i.i (omega (arith, c.told-order, c.loop-i-test.true)) in
+    grind (arith, is, c.loop-i.invariant)
 
 pub loop-i-preserved : goal.loop-i-preserved
 loop-i-preserved c =
@@ -26,9 +23,13 @@ loop-i-preserved c =
     ] in
     below_more (λ k. has members (get_or list k 0) ≡ false) i c.loop-i.invariant out
 
-pub returns : goal.returns
-returns c =
+pub returns-clause-value : goal.returns-clause-value
+returns-clause-value c =
+    c.lowest_of.ensures ∙ sym (first_lowest c.args.order.now c.args.members.now (λ k h. c.loop-i.invariant k (omega arith)))
+
+pub returns-clause-law : goal.returns-clause-law
+returns-clause-law c =
     let list = c.args.order.now in
     let members = c.args.members.now in
-    let is = c.lowest-of.ensures ∙ sym (first_lowest list members (λ k h. c.loop-i.invariant k (omega arith))) in
-    record { value = is; law = subst (First list members) (sym is) (first_law list members) }
+    let is = c.lowest_of.ensures ∙ sym (first_lowest list members (λ k h. c.loop-i.invariant k (omega arith))) in
+    subst (First list members) (sym is) (first_law list members)
