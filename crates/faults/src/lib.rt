@@ -8,7 +8,7 @@ ghost use Rattle.query.specs.declared.types.DraftError.TheVariants as draft;
 use cells::headings::HeadingRefusal;
 use query::types::{DraftError, Refusal};
 use std::alloc::{AllocError, AllocFailed};
-use std::io;
+use std::{fmt, io};
 
 #[derive(Drop)]
 pub enum Fault {
@@ -63,5 +63,24 @@ impl From<io::Error> for Fault {
 
     fn from(e: io::Error) -> Fault {
         Fault::Io(e)
+    }
+}
+
+// What `main` prints of it: the number that a call refused with, or what failed.
+impl fmt::Debug for Fault {
+    fn fmt<W: fmt::Write>(&self, f: &mut fmt::Formatter<W>) -> fmt::Result {
+        match self {
+            Fault::Heading(refusal) => {
+                let number = refusal.number();
+                write!(f, "refused {number}")
+            }
+            Fault::Draft(DraftError::Refused(refusal)) => {
+                let number = refusal.number();
+                write!(f, "refused {number}")
+            }
+            Fault::Draft(DraftError::Memory) => write!(f, "out of memory"),
+            Fault::Memory => write!(f, "out of memory"),
+            Fault::Io(e) => write!(f, "{e:?}"),
+        }
     }
 }
