@@ -2,14 +2,13 @@
 use Rattle.std.proofs.Common.{◌≡◌, ℕ, zero, suc, ◌+◌, ◌-◌, Bool, true, false, cond, not, eqb, ltb, leb, ◌⊎◌, List, [], ◌∷◌, ◌++◌, length, get_or, Some, None, Option, sym, refl, ap, ◌∙◌, subst, inl, inr, ⊎_elim, arith}
 use Rattle.std.proofs.lemmas.Bool.{and_parts, and_from, cond-true, not-true, eq-eqb}
 use Rattle.basis.specs.Lists.{all}
-use Rattle.cells.specs.Cells.{fits}
 use Rattle.query.specs.Lawful.{Lawful}
 use Rattle.query.specs.Queries.{Query}
 use Rattle.stores.specs.Tables.{Table, count_at, next_row}
 use Rattle.algebra.specs.Meets.{holds}
 use Rattle.rules.specs.Calls.{World, Output, own, newest_complete, newest_rows, older, feed_refusal, step_refusal, take_refusal, names_out, back_refusal, line_of, post_refusal, step_answer, step_waiting, with_slip, post_output, Call, Answer, Reply, no_output, reply, call, feed, step, take, post, back, refused, stepped, slip, posted, returned}
 use Rattle.rules.specs.Lists.{same_list}
-use Rattle.rules.specs.Moves.{complete, links, at_filter, ready, Move, tried, routed, link_holds, matched, found, answered, link_key, probed, idled, moved, move}
+use Rattle.rules.specs.Moves.{complete, links, at_filter, Move, tried, routed, link_holds, matched, found, answered, link_key, probed, idled, moved, move}
 use Rattle.rules.specs.Reads.{relations_of, rows_read, stamp_of_row}
 use Rattle.rules.specs.declared.types.Link.{Link}
 use Rattle.rules.specs.declared.types.State.{State}

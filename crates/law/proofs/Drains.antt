@@ -4,7 +4,7 @@ use Rattle.std.specs.List.{AllByRecursion as All}
 use Rattle.std.proofs.lemmas.Bool.{and_parts, not-true}
 use Rattle.query.specs.Queries.{Query}
 use Rattle.stores.specs.Tables.{Table}
-use Rattle.rules.specs.Calls.{RunState, World, older, feed_refusal, step_refusal, take_refusal, back_refusal, post_refusal, step_answer, step_waiting, Call, Reply, call, feed, step, take, post, back, accepted}
+use Rattle.rules.specs.Calls.{RunState, World, older, feed_refusal, step_refusal, take_refusal, back_refusal, post_refusal, step_answer, step_waiting, Call, Reply, call, feed, step, take, post, back}
 use Rattle.rules.specs.Counts.{Counts, counted}
 use Rattle.rules.specs.Lists.{bit}
 use Rattle.rules.specs.Moves.{move}

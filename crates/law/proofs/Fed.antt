@@ -17,7 +17,6 @@ use Rattle.rules.specs.Calls.{singleton, with_row}
 use Rattle.rules.specs.Lists.{bit, times, same_list}
 use Rattle.rules.specs.Moves.{tables, spans, at_filter}
 use Rattle.rules.specs.Reads.{relations_of, count, row_of, rows_read, stamp_of_row}
-use Rattle.rules.specs.Shape.{bound_for}
 use Rattle.rules.specs.declared.types.Tuple.{Tuple}
 use Rattle.law.proofs.Fits.{CellsFit}
 use Rattle.law.proofs.Owing.{owes_along}

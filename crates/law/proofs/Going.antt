@@ -12,7 +12,7 @@ use Rattle.law.proofs.Whole.{run_law}
 use Rattle.law.specs.Driving.{postings_of, Configuration, Made, HistoriesGoOn}
 use Rattle.law.specs.Histories.{all_well_chosen, after, opening, History, Posting, Journal, journal_after, no_rows, beginning, journal}
 use Rattle.law.specs.Law.{steps, drain, bound}
-use Rattle.law.specs.Steering.{Choosing, steered}
+use Rattle.law.specs.Steering.{Choosing}
 
 module _ {S : Type 0} (p : Policy S) (ch : Choosing p) (q : Query) (a b : Configuration S) where
   pub went_on : (n no : ℕ) (more : List ℕ) (due still : Bool) → Made p q a b n no more due still → HistoriesGoOn p q a b

@@ -10,8 +10,7 @@ use Rattle.query.specs.Rows.{all_fit}
 use Rattle.stores.specs.Tables.{Table, table_at, count_at, grown}
 use Rattle.policies.specs.Modules.{has}
 use Rattle.algebra.specs.Algebra.{Relations}
-use Rattle.algebra.specs.Lines.{line}
-use Rattle.rules.specs.Calls.{RunState, World, Output, own, newest_complete, newest_rows, older, feed_refusal, step_refusal, take_refusal, names_out, back_refusal, line_of, post_refusal, with_row, one_more_at, feed_run, step_waiting, post_output, Call, Answer, Reply, reply, call, feed, step, take, post, back, refused, accepted}
+use Rattle.rules.specs.Calls.{RunState, World, Output, own, newest_complete, newest_rows, older, feed_refusal, step_refusal, take_refusal, names_out, back_refusal, line_of, post_refusal, with_row, one_more_at, feed_run, step_waiting, post_output, Call, Answer, Reply, reply, call, feed, step, take, post, back, refused}
 use Rattle.rules.specs.Counts.{Counts, counted}
 use Rattle.rules.specs.Lists.{bit, times, same_list, grow}
 use Rattle.rules.specs.Moves.{tables, filters, spans, is_idle, complete, module_ready, ready, no_modules, in_state, move, choices}

@@ -5,7 +5,7 @@ use Rattle.query.specs.Queries.{Query}
 use Rattle.algebra.specs.Algebra.{Relations}
 use Rattle.rules.specs.Calls.{World, Output, own, laid, Call, Answer, refused, accepted, stepped, slip, posted, returned, call}
 use Rattle.rules.specs.Steering.{Policy}
-use Rattle.law.specs.Histories.{after, History, Posting, journal_after, no_rows, beginning, journal}
+use Rattle.law.specs.Histories.{after, History, Posting, journal_after, beginning, journal}
 use Rattle.law.specs.Law.{steps, drain}
 use Rattle.law.specs.Steering.{steered_all, states_after}
 

@@ -1,9 +1,8 @@
 -- Worked examples, computed from the definitions.
-use Rattle.std.specs.Prelude.{◌≡◌, ℕ, zero, suc, Bool, true, false, List, [], ◌∷◌, map, length, replicate, pos}
+use Rattle.std.specs.Prelude.{◌≡◌, ℕ, zero, suc, Bool, true, false, List, [], ◌∷◌, map, replicate, pos}
 use Rattle.cells.specs.declared.types.Cell.{Cell}
 use Rattle.cells.specs.declared.types.Cell.TheVariants.{Number, Code}
 use Rattle.cells.specs.declared.types.Kind.TheVariants as kind
-use Rattle.expressions.specs.declared.types.Column.{Column}
 use Rattle.expressions.specs.declared.types.Item.{Item}
 use Rattle.expressions.specs.declared.types.Item.TheVariants as item
 use Rattle.policies.specs.Order.{fixed_choice, fixed_by}
@@ -13,8 +12,7 @@ use Rattle.policies.specs.declared.fixed.Fixed.{Fixed}
 use Rattle.query.specs.Lawful.{Lawful}
 use Rattle.query.specs.Queries.{Query, value, code}
 use Rattle.query.specs.declared.types.Test.TheVariants.{Less}
-use Rattle.algebra.specs.Algebra.{select_project_join}
-use Rattle.rules.specs.Counts.{Counts, no_counts}
+use Rattle.rules.specs.Counts.{no_counts}
 use Rattle.rules.specs.Moves.{choices}
 use Rattle.rules.specs.Calls.{RunState, World, Output, feed_refusal, newest_rows, singleton, Call, feed, step, take, post, Answer, accepted, stepped, slip, posted, call}
 use Rattle.rules.specs.Steering.{Policy}

@@ -1,7 +1,6 @@
 -- Histories of a run: the calls made since it was opened, and the journal of what came of them.
-use Rattle.std.specs.Prelude.{◌≡◌, ℕ, ◌-◌, Bool, true, false, cond, ◌&&◌, List, [], ◌∷◌, ◌++◌, length, take as front, drop}
+use Rattle.std.specs.Prelude.{◌≡◌, ℕ, ◌-◌, Bool, true, false, cond, ◌&&◌, List, [], ◌∷◌, ◌++◌, take as front, drop}
 use Rattle.basis.specs.Lists.{any}
-use Rattle.cells.specs.declared.types.Cell.{Cell}
 use Rattle.policies.specs.Modules.{has}
 use Rattle.query.specs.Queries.{Query}
 use Rattle.stores.specs.Tables.{Table}

@@ -1,5 +1,5 @@
 -- Bytes laid into a buffer one after another.
-use Rattle.std.proofs.Common.{◌≡◌, ℕ, suc, ◌+◌, ◌<◌, ◌≤◌, min, Bool, true, false, cond, leb, ◌⊎◌, List, [], ◌∷◌, ◌++◌, length, set, sym, refl, ap, ◌∙◌, subst, inl, inr, add-zero, add_assoc, arith, length-append, length-set, rules}
+use Rattle.std.proofs.Common.{◌≡◌, ℕ, suc, ◌+◌, ◌<◌, ◌≤◌, Bool, true, false, leb, List, [], ◌∷◌, ◌++◌, length, set, sym, refl, ap, ◌∙◌, arith, length-append, length-set, rules}
 use Rattle.std.proofs.lemmas.List.{set_past}
 use Rattle.output.specs.Puts.{Puts}
 use Rattle.rules.specs.Calls.{laid}
