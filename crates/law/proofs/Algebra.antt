@@ -2,7 +2,7 @@
 use Rattle.std.proofs.Common.{◌≡◌, ℕ, zero, suc, ◌+◌, ◌*◌, ◌<◌, ◌≤◌, Bool, true, false, ◌&&◌, eqb, List, [], ◌∷◌, ◌++◌, map, length, get_or, replicate, filter, sym, refl, ap, ◌∙◌, subst, ap₂, ⊎_elim, not-suc-le-zero, add-mul, zero-mul, arith}
 use mathlib.Core.Path.{fun_ext}
 use lib.ListN.{length-map}
-use Rattle.std.specs.List.{AllByRecursion as All}
+use Rattle.std.specs.List.{AllByRecursion}
 use Rattle.std.specs.List.Sorted.{IsPermutation}
 use Rattle.std.proofs.lemmas.Bool.{cases_eq, cases_Bool, cond-true, cond-false, eq-eqb, ne_eqb}
 use Rattle.std.proofs.ByRecursion.{All-append, All-weaker, All-map}
@@ -154,14 +154,14 @@ once (suc n) (xs ∷ xss) (r ∷ rs) f =
 
 -- all of the product is such
 all_each : {A : Type 0} (P : A → Type 0) (Q R : List A → Type 0) → ((x : A) (xs : List A) → P x → Q xs → R (x ∷ xs))
-    → (xs : List A) (yss : List (List A)) → All P xs → All Q yss → All R (each_with xs yss)
+    → (xs : List A) (yss : List (List A)) → AllByRecursion P xs → AllByRecursion Q yss → AllByRecursion R (each_with xs yss)
 all_each P Q R f [] yss a b = tt
 all_each {A} P Q R f (x ∷ xs) yss a b =
     All-append R (map (λ ys. x ∷ ys) yss) (each_with xs yss)
     (All-map R (λ ys. x ∷ ys) yss (All-weaker Q (λ ys. R (x ∷ ys)) (λ ys q. f x ys a.0 q) yss b))
     (all_each P Q R f xs yss a.1 b)
 
-all_numbers : (k n : ℕ) → All (λ r. (k ≤ r) × (r < k + n)) (numbers_from k n)
+all_numbers : (k n : ℕ) → AllByRecursion (λ r. (k ≤ r) × (r < k + n)) (numbers_from k n)
 all_numbers k zero = tt
 all_numbers k (suc n) =
     ((omega arith, omega arith), All-weaker (λ r. (suc k ≤ r) × (r < suc k + n)) (λ r. (k ≤ r) × (r < k + suc n)) (λ r h. let a = h.0 in let b = h.1 in (omega arith, omega arith)) (numbers_from (suc k) n) (all_numbers (suc k) n))
@@ -170,7 +170,7 @@ at_zero_or : (P : ℕ → Type 0) → P 0 → ((t : ℕ) → P (suc t)) → (t :
 at_zero_or P z s zero = z
 at_zero_or P z s (suc t) = s t
 
-all_fit : {A : Type 0} (n : ℕ) (s : List (List A)) → All (Fit n s) (product (row_numbers n s))
+all_fit : {A : Type 0} (n : ℕ) (s : List (List A)) → AllByRecursion (Fit n s) (product (row_numbers n s))
 all_fit zero [] = (record { long = refl; kept = λ t a b. absurd (not-suc-le-zero b); rest = λ t a. refl }, tt)
 all_fit (suc n) [] = (record { long = refl; kept = λ t a b. absurd (not-suc-le-zero b); rest = λ t a. refl }, tt)
 all_fit zero (xs ∷ xss) =
@@ -209,7 +209,7 @@ picked_reads q n s c f =
 
 -- selection and projection see the reading alone
 module _ {A B C : Type 0} (g : A → B) (F : B → C) (G : B → Bool) (F' : A → C) (G' : A → Bool) where
-  carry : (xs : List A) → All (λ x. (F (g x) ≡ F' x) × (G (g x) ≡ G' x)) xs → map F (filter G (map g xs)) ≡ map F' (filter G' xs)
+  carry : (xs : List A) → AllByRecursion (λ x. (F (g x) ≡ F' x) × (G (g x) ≡ G' x)) xs → map F (filter G (map g xs)) ≡ map F' (filter G' xs)
   carry [] a = refl
   carry (x ∷ xs) a = go (G' x) refl (carry xs a.1)
     where
@@ -231,7 +231,7 @@ algebra_numbers q s l =
     (λ c f. (ap (line q) (picked_reads q (tables q) s c f), ap (meets q) (picked_reads q (tables q) s c f))) (product (row_numbers (tables q) s)) (all_fit (tables q) s))
 
 -- the postings' lines
-lines_at : (q : Query) (s : Relations) (ps : List Posting) → All (RightPosting q s) ps → map (line_at q s) (map (λ p. p.rows) ps) ≡ map (λ p. p.bytes) ps
+lines_at : (q : Query) (s : Relations) (ps : List Posting) → AllByRecursion (RightPosting q s) ps → map (line_at q s) (map (λ p. p.rows) ps) ≡ map (λ p. p.bytes) ps
 lines_at q s [] a = refl
 lines_at q s (p ∷ ps) a = ap₂ {C = List (List ℕ)} (λ y ys. y ∷ ys) (sym a.0.bytes) (lines_at q s ps a.1)
 

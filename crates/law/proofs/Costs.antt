@@ -1,7 +1,7 @@
 -- What a waiting tuple still costs at most, in steps: every step that does not find a line ready makes the sum fall.
 use Rattle.std.proofs.Common.{◌≡◌, ℕ, zero, suc, ◌+◌, ◌-◌, ◌*◌, ◌<◌, ◌≤◌, Bool, true, false, ltb, ◌⊎◌, List, [], ◌∷◌, ◌++◌, length, get_or, set, Some, None, Option, sym, refl, ap, subst, inl, inr, not-suc-le-zero, mul-le-mul_right, suc-mul, mul-le-mul_left, mul-one, mul-add, arith, get_or-set_other, get_or-set_same}
 use native.Mathlib.Nat.{le-max_left, le-max_right}
-use Rattle.std.specs.List.{AllByRecursion as All}
+use Rattle.std.specs.List.{AllByRecursion}
 use Rattle.std.proofs.lemmas.Bool.{lt-ltb}
 use Rattle.basis.specs.Lists.{all}
 use Rattle.query.specs.Queries.{Query}
@@ -120,7 +120,7 @@ pub cost_bound : (q : Query) (ts : List Table) (next : ℕ) (x : Tuple) → Soun
 unfolding cost
 cost_bound q ts next x d = cost_bound_in q ts next x x.state d
 
-pub total-bound : (q : Query) (ts : List Table) (next : ℕ) (xs : List Tuple) → All (Sound q ts next) xs → total q ts xs ≤ length xs * bound q ts
+pub total-bound : (q : Query) (ts : List Table) (next : ℕ) (xs : List Tuple) → AllByRecursion (Sound q ts next) xs → total q ts xs ≤ length xs * bound q ts
 total-bound q ts next [] a = omega arith
 total-bound q ts next (x ∷ xs) a =
     let b = cost_bound q ts next x a.0 in

@@ -1,6 +1,6 @@
 -- A drain with enough steps leaves nothing waiting.
 use Rattle.std.proofs.Common.{◌≡◌, ℕ, ◌+◌, ◌*◌, ◌≤◌, Bool, true, false, not, eqb, ◌⊎◌, List, [], ◌∷◌, length, refl, ap, inl, inr, ⊎_elim, arith}
-use Rattle.std.specs.List.{AllByRecursion as All}
+use Rattle.std.specs.List.{AllByRecursion}
 use Rattle.std.proofs.lemmas.Bool.{and_parts, not-true}
 use Rattle.query.specs.Queries.{Query}
 use Rattle.stores.specs.Tables.{Table}
@@ -46,7 +46,7 @@ module _ (q : Query) where
     abbrev On : List Tuple → Counts → World
     On xs n = record { run = record { waiting = xs; out = false; accepted = r.accepted; next = r.next; counts = n }; store = ts }
 
-    step_part : (m : ℕ) (n : List Tuple → Counts) (xs : List Tuple) → All (Sound q ts r.next) xs → Fitting q m xs
+    step_part : (m : ℕ) (n : List Tuple → Counts) (xs : List Tuple) → AllByRecursion (Sound q ts r.next) xs → Fitting q m xs
         → not due ≡ true
         → drain q (eqb (step_answer q ts m xs) 6) (On (step_waiting q ts m xs) (n xs)) cs ≡ true
         → Paid ts (step_waiting q ts m xs) 0 (eqb (step_answer q ts m xs) 6) (On (step_waiting q ts m xs) (n xs)) cs

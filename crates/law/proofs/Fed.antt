@@ -2,7 +2,7 @@
 use Rattle.std.proofs.Common.{◌≡◌, ℕ, zero, suc, ◌+◌, ◌<◌, ◌≤◌, true, false, cond, ◌&&◌, eqb, ltb, ◌⊎◌, List, [], ◌∷◌, map, length, get_or, set, replicate, Some, sym, refl, ap, ◌∙◌, subst, ap₂, ⊎_elim, arith, length-set, get_or-set_other, get_or-set_same}
 use mathlib.Core.Path.{fun_ext}
 use lib.ListN.{length-map, length-replicate}
-use Rattle.std.specs.List.{AllByRecursion as All}
+use Rattle.std.specs.List.{AllByRecursion}
 use Rattle.std.proofs.lemmas.Bool.{and_parts, and_from, cases_eq, cases_lt, cases_Bool, cond-true, cond-false, eq-eqb, ltb-true, lt-ltb}
 use Rattle.std.proofs.ByRecursion.{All-weaker}
 use Rattle.basis.specs.Lists.{numbered}
@@ -220,7 +220,7 @@ module _ (ts : List Table) (t : ℕ) (cells : List Cell) (next : ℕ) (in' : t <
               (cases_Bool (spans x.rows t)))
 
           pub new_once : (ps : List Posting) (waiting : List Tuple)
-              → All (RightPosting q (relations_of ts)) ps → All (Sound q ts next) waiting
+              → AllByRecursion (RightPosting q (relations_of ts)) ps → AllByRecursion (Sound q ts next) waiting
               → times (λ p. same_list c p.rows) ps + times (owes q ts' c) (new ∷ waiting) ≡ 1
           new_once ps waiting ls ws =
               let a = times_none (λ p. same_list c p.rows) (RightPosting q (relations_of ts)) ps

@@ -1,6 +1,6 @@
 -- The cells of the rows that are kept are lawful and of their columns' kinds, and so are seen as they are.
 use Rattle.std.proofs.Common.{◌≡◌, ℕ, zero, suc, ◌≤◌, Bool, true, false, ◌&&◌, eqb, List, [], ◌∷◌, length, is_some, Some, sym, refl, ap, subst, arith}
-use Rattle.std.specs.List.{AllByRecursion as All}
+use Rattle.std.specs.List.{AllByRecursion}
 use Rattle.std.proofs.lemmas.Bool.{and_parts, cond-true, both_ways, eqb-true}
 use Rattle.std.proofs.ByRecursion.{All-weaker}
 use Rattle.basis.specs.Lists.{numbered}
@@ -24,13 +24,13 @@ CellsFit q ts =
     → kept_cell (relations_of ts) t n c ≡ Some (seen_cell q (relations_of ts) t n c)
 
 -- a link's own column is one of its table
-own-columns : (q : Query) (rows : List ℕ) (t : ℕ) (js : List Join) → All (Columned q) js → All (λ l. IsColumn q t l.own) (links js rows t)
+own-columns : (q : Query) (rows : List ℕ) (t : ℕ) (js : List Join) → AllByRecursion (Columned q) js → AllByRecursion (λ l. IsColumn q t l.own) (links js rows t)
 own-columns q rows t [] a = tt
 own-columns q rows t (j ∷ js) a =
     go (eqb j.left.table t && spans rows j.right.table) refl (eqb j.right.table t && spans rows j.left.table) refl (own-columns q rows t js a.1)
   where
     go : (x : Bool) → (eqb j.left.table t && spans rows j.right.table) ≡ x → (y : Bool) → (eqb j.right.table t && spans rows j.left.table) ≡ y
-        → All (λ l. IsColumn q t l.own) (links js rows t) → All (λ l. IsColumn q t l.own) (links (j ∷ js) rows t)
+        → AllByRecursion (λ l. IsColumn q t l.own) (links js rows t) → AllByRecursion (λ l. IsColumn q t l.own) (links (j ∷ js) rows t)
     go true e y f ih =
         rw e (subst (λ (u : ℕ). IsColumn q u j.left.column) (eqb-true j.left.table t (and_parts (eqb j.left.table t) (spans rows j.right.table) e).0) a.0.0, ih)
     go false e true f ih =
@@ -41,7 +41,7 @@ abbrev pub SeenSo : Query → List Table → ℕ → ℕ → Link → Type 0
 SeenSo q ts t n l = kept_cell (relations_of ts) t n l.own ≡ Some (seen_cell q (relations_of ts) t n l.own)
 
 pub link_reads : (q : Query) → Checked q → (ts : List Table) → CellsFit q ts → (rows : List ℕ) (t n : ℕ) → 1 ≤ n → n ≤ count_at ts t
-    → All (SeenSo q ts t n) (links q.joins rows t)
+    → AllByRecursion (SeenSo q ts t n) (links q.joins rows t)
 link_reads q lawful ts f rows t n a b =
     All-weaker (λ l. IsColumn q t l.own) (SeenSo q ts t n) (λ l d. f t n l.own a b d)
     (links q.joins rows t) (own-columns q rows t q.joins lawful.columns)

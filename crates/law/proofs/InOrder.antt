@@ -1,6 +1,6 @@
 -- What every call keeps of a history's journal.
 use Rattle.std.proofs.Common.{◌≡◌, ℕ, zero, suc, ◌+◌, ◌<◌, ◌≤◌, Bool, true, false, cond, not, ◌&&◌, eqb, ltb, leb, List, [], ◌∷◌, ◌++◌, length, get_or, sym, refl, ap, ◌∙◌, subst, ap₂, ⊎_elim, arith, length-set, get_or-set_other, get_or-set_same}
-use Rattle.std.specs.List.{AllByRecursion as All}
+use Rattle.std.specs.List.{AllByRecursion}
 use Rattle.std.proofs.lemmas.Bool.{and_parts, or_right, or_left, cases_eq, cond-true, eqb-true, ltb-true, leb-true}
 use Rattle.std.proofs.ByRecursion.{All-append, All-weaker}
 use Rattle.basis.specs.Lists.{any, upto}
@@ -42,9 +42,9 @@ pub record Kept (q : Query) (rows : Relations) (ps : List Posting) (r : RunState
   pub cells : CellsFit q ts
   pub rising : Rising ts
   pub below : (t n : ℕ) → 1 ≤ n → n ≤ count_at ts t → stamp_of_row ts t n < r.next
-  pub sound : All (Sound q ts r.next) r.waiting
+  pub sound : AllByRecursion (Sound q ts r.next) r.waiting
   pub slip_out : r.out ≡ true → newest_complete q r.waiting ≡ true
-  pub good : All (RightPosting q (relations_of ts)) ps
+  pub good : AllByRecursion (RightPosting q (relations_of ts)) ps
   pub once : (c : List ℕ) → Combination q (relations_of ts) c → Meets q (relations_of ts) c → times (names c) ps + times (owes q ts c) r.waiting ≡ 1
 
 -- a reply is a grant or a refusal
@@ -69,7 +69,7 @@ any_member [] k h = h
 any_member (b ∷ bs) zero h = or_left b (any (λ b. b) bs) h
 any_member (b ∷ bs) (suc k) h = or_right b (any (λ b. b) bs) (any_member bs k h)
 
-pub fitting : (q : Query) → Checked q → (ts : List Table) (next m : ℕ) (xs : List Tuple) → All (Sound q ts next) xs → member_if_any (choices q xs) m ≡ true → Fitting q m xs
+pub fitting : (q : Query) → Checked q → (ts : List Table) (next m : ℕ) (xs : List Tuple) → AllByRecursion (Sound q ts next) xs → member_if_any (choices q xs) m ≡ true → Fitting q m xs
 fitting q lawful ts next m [] d h = tt
 fitting q lawful ts next m (x ∷ xs) d h = λ e i.
     let a : (is_idle x.state && not (complete q x)) ≡ true = ap₂ (λ a b. a && not b) i e in
@@ -119,7 +119,7 @@ module _ (q : Query) (lawful : Checked q) (rows : Relations) (ps : List Posting)
       }
 
   -- other calls leave the tables
-  again : (xs : List Tuple) (b : Bool) (n : Counts) (ls : List Posting) → All (Sound q ts r.next) xs → (b ≡ true → newest_complete q xs ≡ true) → All (RightPosting q (relations_of ts)) ls
+  again : (xs : List Tuple) (b : Bool) (n : Counts) (ls : List Posting) → AllByRecursion (Sound q ts r.next) xs → (b ≡ true → newest_complete q xs ≡ true) → AllByRecursion (RightPosting q (relations_of ts)) ls
       → ((c : List ℕ) → Combination q (relations_of ts) c → Meets q (relations_of ts) c → times (names c) ls + times (owes q ts c) xs ≡ 1)
       → Kept q rows ls (record { waiting = xs; out = b; accepted = r.accepted; next = r.next; counts = n }) ts
   again xs b n ls d o g on =
@@ -142,7 +142,7 @@ module _ (q : Query) (lawful : Checked q) (rows : Relations) (ps : List Posting)
       → Kept q rows ps (record { waiting = step_waiting q ts m xs; out = false; accepted = r.accepted; next = r.next; counts = n }) ts
   step_kept m n [] e g = again [] false n ps tt (λ h. clash false h refl) k.good (λ c a b. subst (λ (z : List Tuple). times (names c) ps + times (owes q ts c) z ≡ 1) e (k.once c a b))
   step_kept m n (x ∷ xs) e g =
-      let d : All (Sound q ts r.next) (x ∷ xs) = subst (All (Sound q ts r.next)) e k.sound in
+      let d : AllByRecursion (Sound q ts r.next) (x ∷ xs) = subst (AllByRecursion (Sound q ts r.next)) e k.sound in
       again ((move q ts x m).replacement ++ xs) false n ps
       (All-append (Sound q ts r.next) (move q ts x m).replacement xs (move_sound q lawful ts r.next k.cells x m d.0 g) d.1)
       (λ h. clash false h refl) k.good
@@ -160,7 +160,7 @@ module _ (q : Query) (lawful : Checked q) (rows : Relations) (ps : List Posting)
       let z : newest_complete q [] ≡ true = subst (λ (z : List Tuple). newest_complete q z ≡ true) e (k.slip_out o) in clash false z refl
   post_kept c (x ∷ xs) bytes e o h w =
       let full : complete q x ≡ true = subst (λ (z : List Tuple). newest_complete q z ≡ true) e (k.slip_out o) in
-      let d : All (Sound q ts r.next) (x ∷ xs) = subst (All (Sound q ts r.next)) e k.sound in
+      let d : AllByRecursion (Sound q ts r.next) (x ∷ xs) = subst (AllByRecursion (Sound q ts r.next)) e k.sound in
       let is = same_list_true c x.rows h in
       let p : Posting = record { rows = c; bytes = bytes } in
       again xs false r.counts (ps ++ (p ∷ [])) d.1 (λ h. clash false h refl)

@@ -1,6 +1,6 @@
 -- Each combination is posted once or owed once; equal rows make equal postings.
 use Rattle.std.proofs.Common.{◌≡◌, ℕ, ◌+◌, Bool, true, false, List, [], ◌∷◌, Some, sym, refl, ap, ◌∙◌, subst, ap₂, inl, inr, ⊎_elim, arith}
-use Rattle.std.specs.List.{AllByRecursion as All}
+use Rattle.std.specs.List.{AllByRecursion}
 use Rattle.std.proofs.lemmas.Bool.{cases_eq}
 use Rattle.std.proofs.ByRecursion.{All-weaker}
 use Rattle.query.specs.Queries.{Query}
@@ -21,7 +21,7 @@ module _ (q : Query) (lawful : Checked q) where
         once = λ c comb meet.
             let o = k.once c (subst (λ (z : Relations). Combination q z c) k.same_rows comb) (subst (λ (z : Relations). Meets q z c) k.same_rows meet) in
             ⊎_elim (λ e. inr (e, omega arith)) (λ ne. inl (omega arith, omega arith)) (cases_eq (posted_times j c) 0);
-        right = subst (λ (z : Relations). All (RightPosting q z) j.postings) (sym k.same_rows) k.good;
+        right = subst (λ (z : Relations). AllByRecursion (RightPosting q z) j.postings) (sym k.same_rows) k.good;
       }
 
   pub accepted_cells_are_seen : AcceptedCellsAreSeen q
@@ -36,7 +36,7 @@ module _ (q : Query) (lawful : Checked q) where
   posted_once_or_owed_once h = in_order_once (journal q h) (history_kept q lawful h)
 
 -- (c)
-posted_good : (P : List ℕ → Type 0) (c : List ℕ) (ps : List Posting) → All (λ p. P p.rows) ps → (times (names c) ps ≡ 0 → ⊥) → P c
+posted_good : (P : List ℕ → Type 0) (c : List ℕ) (ps : List Posting) → AllByRecursion (λ p. P p.rows) ps → (times (names c) ps ≡ 0 → ⊥) → P c
 posted_good P c [] a h = absurd (h refl)
 posted_good P c (p ∷ ps) a h = go (same_list c p.rows) refl (posted_good P c ps a.1)
   where

@@ -1,6 +1,6 @@
 -- What a step with one tuple does to what is owed.
 use Rattle.std.proofs.Common.{◌≡◌, ℕ, ◌+◌, ◌<◌, ◌≤◌, Bool, true, false, cond, not, ◌&&◌, ◌||◌, eqb, ltb, ◌⊎◌, List, [], ◌∷◌, length, get_or, Some, None, Option, sym, refl, ap, ◌∙◌, subst, ap₂, inl, inr, ⊎_elim, add-zero, arith, get_or-set_other, get_or-set_same}
-use Rattle.std.specs.List.{AllByRecursion as All}
+use Rattle.std.specs.List.{AllByRecursion}
 use Rattle.std.proofs.lemmas.Bool.{and_parts, and_from, or_left, cases_eq, cases_lt, cond-true, cond-false, not_from_false, eqb-true, eq-eqb, ne_eqb, ltb-true, ltb-false, lt-ltb, le-ltb}
 use Rattle.std.proofs.lemmas.List.{get_or_past}
 use Rattle.basis.specs.Lists.{all, upto}
@@ -149,7 +149,7 @@ module _
     (meet : all (join_holds (rows_read q (relations_of ts) c)) q.joins ≡ true)
     (rising : (m n : ℕ) → 1 ≤ m → m < n → n ≤ count_at ts t → stamp_of_row ts t m < stamp_of_row ts t n)
     (alone : (n : ℕ) → 1 ≤ n → n ≤ count_at ts t → (stamp_of_row ts t n ≡ x.driver → ⊥))
-    (reads : (n : ℕ) → 1 ≤ n → n ≤ count_at ts t → All (SeenSo q ts t n) (links q.joins x.rows t))
+    (reads : (n : ℕ) → 1 ≤ n → n ≤ count_at ts t → AllByRecursion (SeenSo q ts t n) (links q.joins x.rows t))
     (after : ℕ)
   where
     abbrev Kept : List Tuple → Type 0
@@ -179,7 +179,7 @@ module _
 
       hit : o ≡ true → kept_cell (relations_of ts) t n l.own ≡ Some key
       hit h =
-          (subst (All (SeenSo q ts t n)) is (reads n first last)).0
+          (subst (AllByRecursion (SeenSo q ts t n)) is (reads n first last)).0
           ∙ ap Some ((same_cell_decides (seen_cell q (relations_of ts) t n l.own) key).0
           (and_parts (link_holds q (relations_of ts) x.rows t n l) (all (link_holds q (relations_of ts) x.rows t n) ls) (passes h)).0)
 

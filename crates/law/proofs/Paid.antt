@@ -1,6 +1,6 @@
 -- A complete tuple: its rows are a combination that meets the query, and the only one that it owes.
 use Rattle.std.proofs.Common.{◌≡◌, ℕ, ◌<◌, Bool, true, false, ◌&&◌, eqb, ltb, List, [], ◌∷◌, get_or, sym, refl, ap, ◌∙◌, subst, ⊎_elim, arith, ext_get_or}
-use Rattle.std.specs.List.{AllByRecursion as All}
+use Rattle.std.specs.List.{AllByRecursion}
 use Rattle.std.proofs.lemmas.Bool.{and_parts, and_from, cases_lt, cond-true, eq-eqb}
 use Rattle.basis.specs.Lists.{all, upto}
 use Rattle.query.specs.Queries.{Query}
@@ -19,7 +19,7 @@ use Rattle.rules.proofs.Grows.{count-relations}
 use Rattle.rules.proofs.Times.{same_list_true, same_list_refl}
 use Rattle.rules.proofs.Uptos.{bool_ext, upto_all, upto_from, never_true}
 
-all_joins : {A : Type 0} (p : A → Bool) (P Q : A → Type 0) (xs : List A) → ((x : A) → P x → Q x → p x ≡ true) → All P xs → All Q xs → all p xs ≡ true
+all_joins : {A : Type 0} (p : A → Bool) (P Q : A → Type 0) (xs : List A) → ((x : A) → P x → Q x → p x ≡ true) → AllByRecursion P xs → AllByRecursion Q xs → all p xs ≡ true
 all_joins p P Q [] f a b = refl
 all_joins p P Q (x ∷ xs) f a b = and_from (p x) (all p xs) (f x a.0 b.0) (all_joins p P Q xs f a.1 b.1)
 

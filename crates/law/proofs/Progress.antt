@@ -1,6 +1,6 @@
 -- A granted step that answers neither 0 nor 6 leaves other tuples waiting than before: what they cost has fallen.
 use Rattle.std.proofs.Common.{◌≡◌, ℕ, true, List, [], ◌∷◌, ◌++◌, sym, ap, ◌∙◌, ⊎_elim, arith}
-use Rattle.std.specs.List.{AllByRecursion as All}
+use Rattle.std.specs.List.{AllByRecursion}
 use Rattle.query.specs.Queries.{Query}
 use Rattle.stores.specs.Tables.{Table}
 use Rattle.rules.specs.Calls.{World, step_refusal, step_answer, step_waiting, Reply, call, step, stepped}
@@ -17,7 +17,7 @@ stepped_same : {m n : ℕ} → stepped m ≡ stepped n → m ≡ n
 stepped_same {m} {n} e = cc
 
 module _ (q : Query) (lawful : Checked q) where
-  waits_otherwise : (ts : List Table) (next m n : ℕ) (xs : List Tuple) → All (Sound q ts next) xs → Fitting q m xs → step_answer q ts m xs ≡ n
+  waits_otherwise : (ts : List Table) (next m n : ℕ) (xs : List Tuple) → AllByRecursion (Sound q ts next) xs → Fitting q m xs → step_answer q ts m xs ≡ n
       → (n ≡ 0 → ⊥) → (n ≡ 6 → ⊥) → (step_waiting q ts m xs ≡ xs → ⊥)
   waits_otherwise ts next m n [] d g e no_end no_line h = no_end (sym e)
   waits_otherwise ts next m n (x ∷ xs) d g e no_end no_line h =

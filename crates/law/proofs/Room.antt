@@ -1,6 +1,6 @@
 -- At most 64 tuples wait: a tuple with n tables to come has n places free above it.
 use Rattle.std.proofs.Common.{◌≡◌, ℕ, ◌+◌, ◌<◌, true, not, eqb, ltb, leb, List, [], ◌∷◌, length, get_or, refl, ◌∙◌, inl, inr, ⊎_elim}
-use Rattle.std.specs.List.{AllByRecursion as All}
+use Rattle.std.specs.List.{AllByRecursion}
 use Rattle.std.proofs.lemmas.Bool.{and_parts, and_from, cases_lt, not_from_false, ltb-true, lt-ltb, leb-true}
 use Rattle.query.specs.Queries.{Query}
 use Rattle.query.specs.Rows.{all_fit}
@@ -35,7 +35,7 @@ roomy-older q (x ∷ xs) h = roomy_pop q x xs h
 table_or_filter : (q : Query) (x : Tuple) (m : ℕ) → module_ready q x m ≡ true → MayGo q x m
 table_or_filter q x m h = ⊎_elim (λ (l : m < 14). inl (ready_at q x m l ∙ h)) (λ g. inr g) (cases_lt m 14)
 
-step_roomy : (q : Query) → Checked q → (ts : List Table) (next m : ℕ) (xs : List Tuple) → Fitting q m xs → All (Sound q ts next) xs → roomy q xs ≡ true → roomy q (step_waiting q ts m xs) ≡ true
+step_roomy : (q : Query) → Checked q → (ts : List Table) (next m : ℕ) (xs : List Tuple) → Fitting q m xs → AllByRecursion (Sound q ts next) xs → roomy q xs ≡ true → roomy q (step_waiting q ts m xs) ≡ true
 step_roomy q lawful ts next m [] g d h = refl
 step_roomy q lawful ts next m (x ∷ xs) g d h =
     let r = roomy_parts q x xs h in

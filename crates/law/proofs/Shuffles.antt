@@ -1,6 +1,6 @@
 -- Lists in which every element stands equally often are shuffles of each other.
 use Rattle.std.proofs.Common.{◌≡◌, ℕ, ◌+◌, Bool, true, false, cond, List, [], ◌∷◌, map, filter, sym, refl, ap, ◌∙◌, subst, ap₂, ⊎_elim, arith}
-use Rattle.std.specs.List.{AllByRecursion as All}
+use Rattle.std.specs.List.{AllByRecursion}
 use Rattle.std.specs.List.Sorted.{IsPermutation}
 use Rattle.std.proofs.lemmas.List.Sorted.{IsPermutation-refl, IsPermutation-sym, IsPermutation-cons, IsPermutation-swap, IsPermutation-trans}
 use Rattle.std.proofs.lemmas.Bool.{cases_Bool, cond-true, cond-false}
@@ -50,7 +50,7 @@ shuffled_by_times f (x ∷ xs) ys h =
     (IsPermutation-sym (map f ys) (f x ∷ map f p.rest) p.front)
 
 -- what holds of each element holds of one that stands in the list
-pub standing : (P : List ℕ → Type 0) (c : List ℕ) (xs : List (List ℕ)) → All P xs → (times (same_list c) xs ≡ 0 → ⊥) → P c
+pub standing : (P : List ℕ → Type 0) (c : List ℕ) (xs : List (List ℕ)) → AllByRecursion P xs → (times (same_list c) xs ≡ 0 → ⊥) → P c
 standing P c [] a h = absurd (h refl)
 standing P c (x ∷ xs) a h = go (same_list c x) refl (standing P c xs a.1)
   where

@@ -1,6 +1,6 @@
 -- What holds of every tuple that waits, and that a step keeps it and what is owed.
 use Rattle.std.proofs.Common.{◌≡◌, ℕ, ◌-◌, ◌<◌, ◌≤◌, Bool, true, false, cond, not, ◌&&◌, eqb, ltb, List, [], ◌∷◌, length, get_or, set, Some, None, Option, sym, refl, ap, ◌∙◌, subst, ap₂, ⊎_elim, add-zero, arith, get_or-set_other, get_or-set_same}
-use Rattle.std.specs.List.{AllByRecursion as All}
+use Rattle.std.specs.List.{AllByRecursion}
 use Rattle.std.proofs.lemmas.Bool.{and_parts, and_from, and_left, or_right, cases_eq, eq-eqb, ne_eqb, lt-ltb}
 use Rattle.basis.specs.Lists.{all}
 use Rattle.cells.specs.declared.types.Cell.{Cell}
@@ -46,7 +46,7 @@ pub record Sound (q : Query) (ts : List Table) (next : ℕ) (x : Tuple) : Type 0
   pub kept : (t : ℕ) → get_or x.rows t 0 ≤ count_at ts t
   pub young : x.driver < next
   pub alone : (t n : ℕ) → spans x.rows t ≡ false → 1 ≤ n → n ≤ count_at ts t → (stamp_of_row ts t n ≡ x.driver → ⊥)
-  pub tied : All (Tied q (relations_of ts) x.rows) q.joins
+  pub tied : AllByRecursion (Tied q (relations_of ts) x.rows) q.joins
   pub passed : (i : ℕ) → i < filters q → get_or x.done i false ≡ true → Passed q (relations_of ts) x.rows i
 
 -- inside a table the build numbers rise
@@ -118,7 +118,7 @@ module _ (q : Query) (s : Relations) (rows : List ℕ) (t r : ℕ) (fit : t < le
         (cases_eq j.right.table t))
         (cases_eq j.left.table t)
 
-  all_tied : (js : List Join) → All (Apart q) js → all (link_holds q s rows t r) (links js rows t) ≡ true → All (Tied q s rows) js → All (Tied q s (set rows t r)) js
+  all_tied : (js : List Join) → AllByRecursion (Apart q) js → all (link_holds q s rows t r) (links js rows t) ≡ true → AllByRecursion (Tied q s rows) js → AllByRecursion (Tied q s (set rows t r)) js
   all_tied [] a h old = tt
   all_tied (j ∷ js) a h old = (tied_here j js h a.0.0 old.0, all_tied js a.1 (tail_links j js h) old.1)
 
@@ -189,13 +189,13 @@ module _ (q : Query) (lawful : Checked q) (ts : List Table) (next : ℕ) (cells 
     module _ (l : Link) (ls : List Link) (is : links q.joins x.rows t ≡ l ∷ ls) (r : ℕ)
         (e : next_row ts t l.own (link_key q ts x l) after ≡ Some r)
       where
-        by_match : (b : Bool) → all (link_holds q (relations_of ts) x.rows t r) ls ≡ b → All Sd (matched x t r b).replacement
+        by_match : (b : Bool) → all (link_holds q (relations_of ts) x.rows t r) ls ≡ b → AllByRecursion Sd (matched x t r b).replacement
         by_match true f =
             let n = next_some ts t l.own (link_key q ts x l) after r e in
             let a = n.0 in
             let b = n.1 in
             let sees : seen_cell q (relations_of ts) t r l.own ≡ link_key q ts x l =
-            some_same (sym (subst (All (SeenSo q ts t r)) is (link_reads q lawful ts cells x.rows t r (omega arith) (omega arith))).0 ∙ n.2) in (
+            some_same (sym (subst (AllByRecursion (SeenSo q ts t r)) is (link_reads q lawful ts cells x.rows t r (omega arith) (omega arith))).0 ∙ n.2) in (
               joined_sound (in_state x (Probing t after)) t r d d.shape.bound_for.0 d.shape.bound_for.1 (omega arith) (omega arith)
                   (subst (λ (k : List Link). all (link_holds q (relations_of ts) x.rows t r) k ≡ true) (sym is)
                   (and_from (link_holds q (relations_of ts) x.rows t r l) (all (link_holds q (relations_of ts) x.rows t r) ls)
@@ -204,26 +204,26 @@ module _ (q : Query) (lawful : Checked q) (ts : List Table) (next : ℕ) (cells 
             )
         by_match false f = (again r, tt)
 
-        by_time : (b : Bool) → All Sd (found q ts x t ls r b).replacement
+        by_time : (b : Bool) → AllByRecursion Sd (found q ts x t ls r b).replacement
         by_time true = tt
         by_time false = by_match (all (link_holds q (relations_of ts) x.rows t r) ls) refl
 
     by_answer : (l : Link) (ls : List Link) → links q.joins x.rows t ≡ l ∷ ls → (a : Option ℕ)
-        → next_row ts t l.own (link_key q ts x l) after ≡ a → All Sd (answered q ts x t ls a).replacement
+        → next_row ts t l.own (link_key q ts x l) after ≡ a → AllByRecursion Sd (answered q ts x t ls a).replacement
     by_answer l ls is None e = tt
     by_answer l ls is (Some r) e = by_time l ls is r e (ltb x.driver (stamp_of_row ts t r))
 
-    by_link : (ls : List Link) → links q.joins x.rows t ≡ ls → All Sd (probed q ts x t after ls).replacement
+    by_link : (ls : List Link) → links q.joins x.rows t ≡ ls → AllByRecursion Sd (probed q ts x t after ls).replacement
     by_link [] is = tt
     by_link (l ∷ ls) is = by_answer l ls is (next_row ts t l.own (link_key q ts x l) after) refl
 
   -- an idle one
   module _ (x : Tuple) (m : ℕ) (d : Sd (in_state x Idle)) where
-    by_filter : (i : ℕ) → filter_ready q x i ≡ true → (b : Bool) → at_filter (holds (rows_read q (relations_of ts) x.rows)) q.filters i ≡ b → All Sd (tried (in_state x Idle) i b).replacement
+    by_filter : (i : ℕ) → filter_ready q x i ≡ true → (b : Bool) → at_filter (holds (rows_read q (relations_of ts) x.rows)) q.filters i ≡ b → AllByRecursion Sd (tried (in_state x Idle) i b).replacement
     by_filter i g true e = let f = filter_parts q x i g in (marked_sound (in_state x Idle) i d f.0 f.2 e, tt)
     by_filter i g false e = tt
 
-    by_module : (b : Bool) → ltb m 6 ≡ b → module_ready q x m ≡ true → All Sd (routed q ts (in_state x Idle) m).replacement
+    by_module : (b : Bool) → ltb m 6 ≡ b → module_ready q x m ≡ true → AllByRecursion Sd (routed q ts (in_state x Idle) m).replacement
     by_module true e g =
         let g' : table_ready q x m ≡ true = rw e at g in
         rw e (with_state (in_state x Idle) (Probing m 0) d (table_parts q x m g'), tt)
@@ -231,15 +231,15 @@ module _ (q : Query) (lawful : Checked q) (ts : List Table) (next : ℕ) (cells 
         let g' : filter_ready q x (m - 6) ≡ true = rw e at g in
         rw e (by_filter (m - 6) g' (at_filter (holds (rows_read q (relations_of ts) x.rows)) q.filters (m - 6)) refl)
 
-    by_complete : (b : Bool) → complete q (in_state x Idle) ≡ b → (complete q (in_state x Idle) ≡ false → module_ready q x m ≡ true) → All Sd (idled q ts (in_state x Idle) m b).replacement
+    by_complete : (b : Bool) → complete q (in_state x Idle) ≡ b → (complete q (in_state x Idle) ≡ false → module_ready q x m ≡ true) → AllByRecursion Sd (idled q ts (in_state x Idle) m b).replacement
     by_complete true e g = (d, tt)
     by_complete false e g = by_module (ltb m 6) refl (g e)
 
-  by_state : (x : Tuple) (m : ℕ) (a : State) → Sd (in_state x a) → (complete q (in_state x a) ≡ false → is_idle a ≡ true → module_ready q x m ≡ true) → All Sd (moved q ts (in_state x a) m a).replacement
+  by_state : (x : Tuple) (m : ℕ) (a : State) → Sd (in_state x a) → (complete q (in_state x a) ≡ false → is_idle a ≡ true → module_ready q x m ≡ true) → AllByRecursion Sd (moved q ts (in_state x a) m a).replacement
   by_state x m Idle d g = by_complete x m d (complete q (in_state x Idle)) refl (λ e. g e refl)
   by_state x m (Probing t after) d g = by_link x t after d (links q.joins x.rows t) refl
 
-  pub move_sound : (x : Tuple) (m : ℕ) → Sd x → (complete q x ≡ false → is_idle x.state ≡ true → module_ready q x m ≡ true) → All Sd (move q ts x m).replacement
+  pub move_sound : (x : Tuple) (m : ℕ) → Sd x → (complete q x ≡ false → is_idle x.state ≡ true → module_ready q x m ≡ true) → AllByRecursion Sd (move q ts x m).replacement
   unfolding move
   move_sound x m d g = by_state x m x.state d g
 

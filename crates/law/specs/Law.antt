@@ -1,7 +1,7 @@
 -- The law of a run: after every history each combination that meets the query was posted once, or is owed by one waiting tuple;
 -- drains end within a bound; equal rows make equal postings; and what was posted is select_project_join over the rows accepted.
 use Rattle.std.specs.Prelude.{◌≡◌, ℕ, zero, suc, ◌+◌, ◌-◌, ◌*◌, ◌<◌, ◌≤◌, min, max, Bool, true, false, cond, not, ◌&&◌, ◌||◌, ◌⊎◌, List, [], ◌∷◌, map, length, Some, ◌==◌, ◌≢◌, nat_lt, slice_index}
-use Rattle.std.specs.List.{AllByRecursion as All}
+use Rattle.std.specs.List.{AllByRecursion}
 use Rattle.std.specs.List.Sorted.{IsPermutation}
 use Rattle.basis.specs.Lists.{upto}
 use Rattle.query.specs.Queries.{Query, column_exists}
@@ -60,7 +60,7 @@ pub record RightPosting (q : Query) (rows : Relations) (p : Posting) : Type 0 wh
 -- and is owed by exactly one. Every posting is of such a combination, and its bytes are its line.
 pub record ExactlyOnce (q : Query) (j : Journal) : Type 0 where
   pub once : (c : List ℕ) → Combination q j.rows c → Meets q j.rows c → ((posted_times j c ≡ 1) × (owing_tuples q j c ≡ 0)) ⊎ ((posted_times j c ≡ 0) × (owing_tuples q j c ≡ 1))
-  pub right : All (RightPosting q j.rows) j.postings
+  pub right : AllByRecursion (RightPosting q j.rows) j.postings
 
 -- (b) Drains.
 

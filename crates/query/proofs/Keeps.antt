@@ -1,6 +1,6 @@
 -- A draft's query is lawful: the facts in its type, said of the query.
 use Rattle.std.proofs.Common.{◌≡◌, ◌≤◌, true, List, [], ◌∷◌, map, length, vec_items, vec_len, subst, arith}
-use Rattle.std.specs.List.{AllByRecursion as All}
+use Rattle.std.specs.List.{AllByRecursion}
 use Rattle.std.proofs.lemmas.List.{length-map, length-take-le}
 use Rattle.cells.specs.Headings.{columns}
 use Rattle.cells.specs.declared.headings.Heading.{Heading}
@@ -14,7 +14,7 @@ column_count h =
     let n : length (columns h) ≡ h.len = length-take-le h.len h.kinds (omega (arith, h.few, h.places)) in
     (omega (arith, h.some), omega (arith, h.few))
 
-column_counts : (hs : List Heading) → All (λ kinds. (1 ≤ length kinds) × (length kinds ≤ 6)) (map columns hs)
+column_counts : (hs : List Heading) → AllByRecursion (λ kinds. (1 ≤ length kinds) × (length kinds ≤ 6)) (map columns hs)
 column_counts [] = tt
 column_counts (h ∷ hs) = (column_count h, column_counts hs)
 
