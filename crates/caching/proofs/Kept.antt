@@ -1,13 +1,13 @@
 -- Remembered answers stay right: when one is recalled, when one is noted, and after a build.
-use Rattle.std.proofs.Common.{◌≡◌, ℕ, zero, suc, ◌+◌, ◌<◌, Bool, true, false, cond, not, ◌&&◌, eqb, List, [], ◌∷◌, map, length, get_or, drop, replicate, is_some, Some, None, Option, sym, refl, ap, ◌∙◌, subst, arith}
-use Rattle.std.specs.List.{AllByRecursion as All}
-use Rattle.std.proofs.ByRecursion.{All-map, All-weaker}
+use Rattle.std.proofs.Common.{◌≡◌, ℕ, zero, suc, ◌+◌, ◌<◌, Bool, true, false, cond, not, ◌&&◌, eqb, List, [], ◌∷◌, map, length, get_or, drop, replicate, set, is_some, Some, None, Option, sym, refl, ap, ◌∙◌, subst, arith}
+use Rattle.std.specs.List.{AllByRecursion}
+use Rattle.std.proofs.ByRecursion.{All-map, All-set, All-weaker}
 use Rattle.std.proofs.lemmas.List.{at_drop_more}
 use Rattle.std.proofs.lemmas.Bool.{and_parts, eqb-true, eq-eqb, both_ways}
 use Rattle.cells.specs.declared.rows.Row.{Row}
 use Rattle.keys.specs.Keys.{same_cell}
 use Rattle.keys.specs.CellOrder.{same_cell_decides}
-use Rattle.stores.specs.Tables.{Table, next_row, built}
+use Rattle.stores.specs.Tables.{Table, built}
 use Rattle.stores.proofs.Builds.{next_other, next_built}
 use Rattle.caching.specs.declared.types.Asked.{Asked}
 use Rattle.caching.specs.declared.types.Remembered.{Remembered}
@@ -51,7 +51,7 @@ module _ (q : Asked) (places : List (Option Remembered)) (i : ℕ) (h : i < leng
 
 module _ (ts : List Table) where
   -- an answer that is recalled is right
-  pub recalled_right : (places : List (Option Remembered)) (q : Asked) (a : Option ℕ) → All (Right ts) places → recalled places q ≡ Some a → a ≡ right_answer ts q
+  pub recalled_right : (places : List (Option Remembered)) (q : Asked) (a : Option ℕ) → AllByRecursion (Right ts) places → recalled places q ≡ Some a → a ≡ right_answer ts q
   recalled_right [] q a h e = absurd (let z : ◌≡◌ {A = ℕ} 0 1 = cc in omega arith)
   recalled_right (None ∷ places) q a h e = recalled_right places q a h.1 e
   recalled_right (Some x ∷ places) q a h e = go (same_question x.asked q) refl (recalled_right places q a h.1)
@@ -63,7 +63,12 @@ module _ (ts : List Table) where
           sym is ∙ h.0 ∙ ap (right_answer ts) (same_asked x.asked q same)
       go false other rest = rest (ap (λ b. cond b (Some x.answer) (recalled places q)) (sym other) ∙ e)
 
-  pub none_right : (n : ℕ) → All (Right ts) (replicate n None)
+  -- a right place in a memory, and the tables as they were
+  pub set_right : (now : List Table) (places : List (Option Remembered)) (turn : ℕ) (x : Option Remembered) → now ≡ ts → Right ts x → AllByRecursion (Right ts) places → AllByRecursion (Right now) (set places turn x)
+  set_right now places turn x same here h =
+      subst (λ (t : List Table). AllByRecursion (Right t) (set places turn x)) (sym same) (All-set (Right ts) places turn x here h)
+
+  pub none_right : (n : ℕ) → AllByRecursion (Right ts) (replicate n None)
   none_right zero = tt
   none_right (suc n) = (tt, none_right n)
 
@@ -82,5 +87,5 @@ module _ (ts : List Table) where
     kept_right None h = tt
     kept_right (Some e) h = still e e.answer h (eqb e.asked.table t) refl
 
-    pub build_right : (places : List (Option Remembered)) → All (Right ts) places → All (Right (built ts t row stamp)) (map (kept t) places)
+    pub build_right : (places : List (Option Remembered)) → AllByRecursion (Right ts) places → AllByRecursion (Right (built ts t row stamp)) (map (kept t) places)
     build_right places h = All-map (Right (built ts t row stamp)) (kept t) places (All-weaker (Right ts) (λ o. Right (built ts t row stamp) (kept t o)) kept_right places h)

@@ -1,5 +1,5 @@
 -- What is remembered of the questions that were asked.
-use Rattle.std.specs.Prelude.{◌≡◌, ℕ, ◌+◌, ◌%◌, Bool, true, false, cond, not, ◌&&◌, List, [], ◌∷◌, is_some, Some, None, Option, ◌==◌, slice_set}
+use Rattle.std.specs.Prelude.{◌≡◌, ℕ, ◌+◌, ◌%◌, Bool, cond, not, ◌&&◌, List, [], ◌∷◌, is_some, Some, None, Option, ◌==◌, slice_set}
 use Rattle.keys.specs.Keys.{same_cell}
 use Rattle.stores.specs.Tables.{Table, next_row}
 use Rattle.caching.specs.declared.types.Asked.{Asked}

@@ -1,6 +1,6 @@
 // The calls on a store with a memory.
 ghost use Rattle.std.specs.Prelude.{◌≡◌, map, replicate, is_ok, if◌then◌else◌, None};
-ghost use Rattle.std.specs.List.{AllByRecursion as All};
+ghost use Rattle.std.specs.List.{AllByRecursion};
 ghost use Rattle.stores.specs.Tables.{has_room, built, next_row};
 ghost use Rattle.caching.specs.Memory.{Right, recalled, kept, remembered, turned, NotAsked};
 ghost use Rattle.std.proofs.Common.{rules, arith};
@@ -18,7 +18,7 @@ impl<S: Store> Cached<S> {
         ensures inner { result.inner ≡ inner }
         ensures memory { result.memory ≡ replicate 32 None }
         ensures turn { result.turn ≡ 0 }
-        ensures sound { S.Store.sound inner → S.Store.sound result.inner × All (Right (S.Store.tables result.inner)) result.memory }
+        ensures sound { S.Store.sound inner → S.Store.sound result.inner × AllByRecursion (Right (S.Store.tables result.inner)) result.memory }
     {
         Cached {
             inner,
@@ -44,15 +44,15 @@ impl<S: Store> Store for Cached<S> {
     ghost tables = { λ s. S.Store.tables s.inner };
 
     // The store below is sound, and every remembered answer is the one that it would give.
-    ghost sound = { λ s. S.Store.sound s.inner × All (Right (S.Store.tables s.inner)) s.memory };
+    ghost sound = { λ s. S.Store.sound s.inner × AllByRecursion (Right (S.Store.tables s.inner)) s.memory };
 
-    ghost six = { first_of (Prim.search rules, Prim.grind (arith, Self.row.coded.inj)) };
+    ghost six = { Prim.search rules };
 
-    ghost within_room = { first_of (Prim.search rules, Prim.grind (arith, Self.row.coded.inj)) };
+    ghost within_room = { Prim.search rules };
 
     fn build(&mut self, table: usize, row: Row, stamp: u64) -> Result<(), BuildRefusal>
-        requires { S.Store.sound self.old.inner × All (Right (S.Store.tables self.old.inner)) self.old.memory }
-        ensures sound { S.Store.sound self.new.inner × All (Right (S.Store.tables self.new.inner)) self.new.memory }
+        requires { S.Store.sound self.old.inner × AllByRecursion (Right (S.Store.tables self.old.inner)) self.old.memory }
+        ensures sound { S.Store.sound self.new.inner × AllByRecursion (Right (S.Store.tables self.new.inner)) self.new.memory }
         ensures after { S.Store.tables self.new.inner ≡ built (S.Store.tables self.old.inner) table row stamp }
         ensures answer { is_ok result ≡ has_room (S.Store.tables self.old.inner) table }
         ensures forgets { self.new.memory ≡ (if is_ok result then map (kept table) self.old.memory else self.old.memory) }
@@ -78,8 +78,8 @@ impl<S: Store> Store for Cached<S> {
     }
 
     fn next(&mut self, table: usize, column: usize, key: Cell, after: usize) -> Option<usize>
-        requires { S.Store.sound self.old.inner × All (Right (S.Store.tables self.old.inner)) self.old.memory }
-        ensures sound { S.Store.sound self.new.inner × All (Right (S.Store.tables self.new.inner)) self.new.memory }
+        requires { S.Store.sound self.old.inner × AllByRecursion (Right (S.Store.tables self.old.inner)) self.old.memory }
+        ensures sound { S.Store.sound self.new.inner × AllByRecursion (Right (S.Store.tables self.new.inner)) self.new.memory }
         ensures same { S.Store.tables self.new.inner ≡ S.Store.tables self.old.inner }
         ensures value { result ≡ next_row (S.Store.tables self.old.inner) table column key after }
         ensures remembers { self.new.memory ≡ remembered self.old.memory self.old.turn (record { table = table; column = column; key = key; after = after }) result }

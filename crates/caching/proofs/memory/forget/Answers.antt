@@ -1,4 +1,4 @@
-use Rattle.std.proofs.Common.{◌≡◌, ◌<◌, ◌≤◌, ◌++◌, map, length, get_or, take, set, None, sym, refl, ap, ◌∙◌, subst, append-nil, rules}
+use Rattle.std.proofs.Common.{◌<◌, ◌≤◌, ◌++◌, map, length, get_or, take, set, None, ap, ◌∙◌, append-nil, rules}
 use Rattle.std.proofs.lemmas.List.Edits.{map_over_more}
 use Rattle.std.proofs.lemmas.List.{take_all, drop_all, get_or_default}
 use Rattle.caching.specs.Memory.{kept}

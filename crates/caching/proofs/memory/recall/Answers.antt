@@ -1,4 +1,4 @@
-use Rattle.std.proofs.Common.{sym, ap, ◌∙◌}
+use Rattle.std.proofs.Common.{sym, ◌∙◌}
 use Rattle.std.proofs.lemmas.List.{at_drop_all}
 use Rattle.caching.specs.Memory.{recalled}
 use Rattle.caching.proofs.Kept.{recalled_at, recalled_past}
@@ -10,7 +10,7 @@ returns-in-Some c =
 
 pub loop-i-preserved : goal.loop-i-preserved
 loop-i-preserved c =
-    sym (recalled_past c.args.asked.now c.args.memory.now c.loop-i.i c.loop-i-test.true c.in-default.ensures.value) ∙ c.loop-i.invariant
+    sym (recalled_past c.args.asked.now c.args.memory.now c.loop-i.i c.loop-i-test.true c.in_default.ensures.value) ∙ c.loop-i.invariant
 
 pub returns : goal.returns
 returns c =
