@@ -1,4 +1,4 @@
--- What was posted, where nothing waits, is select_project_join.
+-- What was posted, where nothing waits, is select-project-join.
 use Rattle.std.proofs.Common.{◌≡◌, ℕ, zero, suc, ◌+◌, ◌*◌, ◌<◌, ◌≤◌, Bool, true, false, ◌&&◌, eqb, List, [], ◌∷◌, ◌++◌, map, length, get_or, replicate, filter, sym, refl, ap, ◌∙◌, subst, ap₂, ⊎_elim, not-suc-le-zero, add-mul, zero-mul, arith}
 use mathlib.Core.Path.{fun_ext}
 use lib.ListN.{length-map}

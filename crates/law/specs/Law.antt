@@ -1,5 +1,5 @@
 -- The law of a run: after every history each combination that meets the query was posted once, or is owed by one waiting tuple;
--- drains end within a bound; equal rows make equal postings; and what was posted is select_project_join over the rows accepted.
+-- drains end within a bound; equal rows make equal postings; and what was posted is select-project-join over the rows accepted.
 use Rattle.std.specs.Prelude.{◌≡◌, ℕ, zero, suc, ◌+◌, ◌-◌, ◌*◌, ◌<◌, ◌≤◌, min, max, Bool, true, false, cond, not, ◌&&◌, ◌||◌, ◌⊎◌, List, [], ◌∷◌, map, length, Some, ◌==◌, ◌≢◌, nat_lt, slice_index}
 use Rattle.std.specs.List.{AllByRecursion}
 use Rattle.std.specs.List.Sorted.{IsPermutation}
@@ -137,7 +137,7 @@ EqualRowsEqualPostings q =
     (h k : History q) → (journal q h).rows ≡ (journal q k).rows → NothingWaits (journal q h) → NothingWaits (journal q k)
     → (c : List ℕ) → posted_times (journal q h) c ≡ posted_times (journal q k) c
 
--- (d) Where nothing waits, the lines posted are those of select_project_join over the rows accepted, in some order.
+-- (d) Where nothing waits, the lines posted are those of select-project-join over the rows accepted, in some order.
 abbrev pub LinesAreSelectProjectJoin : Query → Type 0
 LinesAreSelectProjectJoin q =
     (h : History q) → NothingWaits (journal q h)
