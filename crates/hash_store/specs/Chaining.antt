@@ -1,11 +1,11 @@
 -- That all is chained has at most one proof, so it comes out of its truncation; and an empty table is chained.
-use Rattle.std.specs.Prelude.{◌≡◌, ℕ, ◌-◌, ◌<◌, List, [], replicate}
+use Rattle.std.specs.Prelude.{◌≡◌, ℕ, ◌<◌, List, [], replicate}
 use Rattle.std.proofs.Common.{ap, arith}
 use Rattle.std.proofs.Math.Logic.{∥∥₁_elim}
 use Rattle.std.proofs.Math.Bridge.{le_prop}
-use std.HLevel.{Π_prop}
+use mathlib.Core.HLevel.{Π_prop, ×₃_prop}
 use Rattle.std.specs.Coded.{coded_ℕ, coded_bool}
-use denote.Struct.Props.{≡_prop, three_prop}
+use denote.Struct.Props.{≡_prop}
 use Rattle.std.proofs.lemmas.List.{get_or-replicate}
 use Rattle.stores.specs.Tables.{Built}
 use Rattle.hash_store.specs.declared.place.Place.{Place}
@@ -15,10 +15,10 @@ use Rattle.hash_store.specs.Placing.{slot_within}
 
 module _ (rows : List Built) (ps : List Place) (heads tails : List ℕ) where
   chained_prop : IsProp (AllChained rows ps heads tails)
-  chained_prop = Π_prop (λ column. Π_prop (λ is. three_prop
+  chained_prop = Π_prop (λ column. Π_prop (λ is. ×₃_prop
       (Π_prop (λ b. Π_prop (λ s. ≡_prop coded_ℕ _ _)))
       (Π_prop (λ b. Π_prop (λ i. Π_prop (λ l. Π_prop (λ h. ≡_prop coded_ℕ _ _)))))
-      (Π_prop (λ b. Π_prop (λ s. three_prop (≡_prop coded_ℕ _ _) le_prop (Π_prop (λ p. ≡_prop coded_bool _ _)))))))
+      (Π_prop (λ b. Π_prop (λ s. ×₃_prop (≡_prop coded_ℕ _ _) le_prop (Π_prop (λ p. ≡_prop coded_bool _ _)))))))
 
   pub all_chained : ∥ AllChained rows ps heads tails ∥₁ → AllChained rows ps heads tails
   all_chained h = ∥∥₁_elim h chained_prop (λ z. z)

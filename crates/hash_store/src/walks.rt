@@ -28,7 +28,7 @@ fn is_filed(p: &Place, column: usize, b: usize) -> bool
 
 // Does the place's cell in the column equal the key?
 fn holds<K: Key>(p: &Place, column: usize, key: &K) -> bool
-    ensures value { result ≡ matches column (cell key.now) (row_in p.now) }
+    ensures value { result ≡ matches column (K.cell key.now) (row_in p.now) }
 {
     match p.row.cell(column) {
         Some(x) => match K::of(&x) {
@@ -113,9 +113,9 @@ pub(crate) fn walk<K: Key>(
 ) -> Walked
     requires within { (count ≤ length places.now) × (0 < column) × (column ≤ 6) × (start.now.behind ≤ after) × (start.now.behind ≤ count) }
     requires links { Links (rows_in places.now count) column (link_in places.now column) }
-    requires at { start.now.at ≡ next_filed (rows_in places.now count) column (cell_bucket (cell key.now)) start.now.behind }
-    ensures row { result.row ≡ or_zero (next_after (matches column (cell key.now)) after (rows_in places.now count)) }
-    ensures visited { result.visited + filed_upto (rows_in places.now count) column (cell_bucket (cell key.now)) start.now.behind ≡ filed_upto (rows_in places.now count) column (cell_bucket (cell key.now)) (ends_at (next_after (matches column (cell key.now)) after (rows_in places.now count)) (rows_in places.now count)) }
+    requires at { start.now.at ≡ next_filed (rows_in places.now count) column (cell_bucket (K.cell key.now)) start.now.behind }
+    ensures row { result.row ≡ or_zero (next_after (matches column (K.cell key.now)) after (rows_in places.now count)) }
+    ensures visited { result.visited + filed_upto (rows_in places.now count) column (cell_bucket (K.cell key.now)) start.now.behind ≡ filed_upto (rows_in places.now count) column (cell_bucket (K.cell key.now)) (ends_at (next_after (matches column (K.cell key.now)) after (rows_in places.now count)) (rows_in places.now count)) }
 {
     let mut at = start.at;
     let mut visited = 0;

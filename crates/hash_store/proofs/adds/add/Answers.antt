@@ -1,4 +1,4 @@
-use Rattle.std.proofs.Common.{ℕ, ◌-◌, ◌<◌, ◌≤◌, [], ◌∷◌, refl, arith, rules}
+use Rattle.std.proofs.Common.{ℕ, ◌<◌, ◌≤◌, [], ◌∷◌, refl, arith, rules}
 use Rattle.cells.specs.declared.rows.Row.{Row}
 use Rattle.hash_store.specs.declared.place.Place.{Place}
 use Rattle.hash_store.proofs.Adding.{filed_none, filed_rows, filed_more, fresh}
@@ -13,9 +13,9 @@ unfolding new
 loop-column-init c =
     filed_none c.args.places.now c.args.heads.now c.args.tails.now c.args.count (new c.args.row c.args.stamp) c.requires.within.1 c.requires.chained
 
-pub file-row-requires : goal.file-row-requires
+pub file_row-requires : goal.file_row-requires
 unfolding new
-file-row-requires c =
+file_row-requires c =
     let low : 0 < c.loop-column.column = omega (arith, c.loop-column.auto.column) in
     let high : c.loop-column.column ≤ 6 = omega (arith, c.loop-column-test.true) in
     record {
@@ -27,8 +27,8 @@ file-row-requires c =
 
 pub loop-column-preserved : goal.loop-column-preserved
 loop-column-preserved c =
-    let e = c.file-row.ensures in
-    filed_more _ c.loop-column.places c.file-row.new.places c.loop-column.heads c.file-row.new.heads c.loop-column.tails c.file-row.new.tails c.args.count c.loop-column.column
+    let e = c.file_row.ensures in
+    filed_more _ c.loop-column.places c.file_row.new.places c.loop-column.heads c.file_row.new.heads c.loop-column.tails c.file_row.new.tails c.args.count c.loop-column.column
     c.loop-column.invariant e.rows e.newest e.filed e.others
 
 pub returns : goal.returns

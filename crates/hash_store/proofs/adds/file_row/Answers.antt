@@ -8,14 +8,14 @@ use Rattle.hash_store.specs.Rows.{length_rows}
 use Rattle.hash_store.specs.Placing.{relinked, chained_same, end_other, link_other, relinked_rows, chained_none, chained_first, chained_last}
 use Rattle.hash_store.proofs.adds.file_row.Goals as goal
 
-pub returns-in-default : goal.returns-in-default
-returns-in-default c =
+pub returns-in_default : goal.returns-in_default
+returns-in_default c =
     let w = c.requires.within in
     record {
       rows = refl;
       newest = refl;
       filed = chained_none c.args.places.now c.args.heads.now c.args.tails.now c.args.count c.args.column w.1 w.4 w.5 c.requires.chained c.requires.newest
-          (λ b. ap (λ o. is_filed o b) (sym c.in-default.ensures.value));
+          (λ b. ap (λ o. is_filed o b) (sym c.in_default.ensures.value));
       others = λ rows d is ne h. h;
     }
 

@@ -12,11 +12,11 @@ returns-then-after-count c =
       filed = λ h. absurd (let z : ⊥ = omega arith in z);
     }
 
-pub returns-then-is-filed : goal.returns-then-is-filed
-returns-then-is-filed c =
+pub returns-then-is_filed : goal.returns-then-is_filed
+returns-then-is_filed c =
     let ps = c.args.places.now in
     let k = c.args.after in
-    let here : in_bucket c.args.column c.args.b (row_in (get_or ps (k - 1) no_place)) ≡ true = sym c.is_filed.ensures.value ∙ c.if-is-filed.true in
+    let here : in_bucket c.args.column c.args.b (row_in (get_or ps (k - 1) no_place)) ≡ true = sym c.is_filed.ensures.value ∙ c.if-is_filed.true in
     record {
       value = sym (ap (λ o. cond (kept_in_bucket c.args.column c.args.b o) k 0) (row_numbered ps c.args.count c.requires k (omega arith) (omega arith))
           ∙ ap (λ t. cond t k 0) here);
@@ -24,11 +24,11 @@ returns-then-is-filed c =
       filed = λ h. ap (in_bucket c.args.column c.args.b) (row_read ps c.args.count c.requires (k - 1) (omega arith)) ∙ here;
     }
 
-pub returns-else-is-filed : goal.returns-else-is-filed
-returns-else-is-filed c =
+pub returns-else-is_filed : goal.returns-else-is_filed
+returns-else-is_filed c =
     let ps = c.args.places.now in
     let k = c.args.after in
-    let here : in_bucket c.args.column c.args.b (row_in (get_or ps (k - 1) no_place)) ≡ false = sym c.is_filed.ensures.value ∙ c.if-is-filed.false in
+    let here : in_bucket c.args.column c.args.b (row_in (get_or ps (k - 1) no_place)) ≡ false = sym c.is_filed.ensures.value ∙ c.if-is_filed.false in
     record {
       value = sym (ap (λ o. cond (kept_in_bucket c.args.column c.args.b o) k 0) (row_numbered ps c.args.count c.requires k (omega arith) (omega arith))
           ∙ ap (λ t. cond t k 0) here);

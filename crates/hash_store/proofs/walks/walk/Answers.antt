@@ -17,8 +17,8 @@ loop-at-init g c =
     (λ le. let equal : c.args.after ≡ s.behind = omega arith in ap (λ k. next_after (matches c.args.column key) k rows) equal)
     (omega arith) c.requires.at
 
-pub offset-bounds-places-at : goal.offset-bounds-places-at
-offset-bounds-places-at g c =
+pub offset_bounds-places-at : goal.offset_bounds-places-at
+offset_bounds-places-at g c =
     let long = length_rows c.args.places.now c.args.count c.requires.within.0 in
     let low = c.loop-at.invariant.low in
     let lt : c.loop-at.at - 1 < length c.args.places.now = omega arith in
@@ -29,8 +29,8 @@ bounds-places-at g c =
     let long = length_rows c.args.places.now c.args.count c.requires.within.0 in
     omega (arith, c.loop-at.invariant.low)
 
-pub overflow-add-visited : goal.overflow-add-visited
-overflow-add-visited g c =
+pub overflow_add-visited : goal.overflow_add-visited
+overflow_add-visited g c =
     let long = length_rows c.args.places.now c.args.count c.requires.within.0 in
     let few = walk_few _ _ _ _ _ c.loop-at.at c.loop-at.visited c.loop-at.invariant (omega arith) in
     let low = c.loop-at.invariant.low in
@@ -54,13 +54,13 @@ returns-then-holds g c =
     }
 
 -- the link of the row looked at
-linked : (g : _) (c : goal.After-at·1 g) → link_in c.args.places.now c.args.column (c.loop-at.at - 1) ≡ next_filed (rows_in c.args.places.now c.args.count) c.args.column (cell_bucket (g.K.Key.cell c.args.key.now)) (suc (c.loop-at.at - 1))
+linked : (g : _) (c : goal.After-at-1 g) → link_in c.args.places.now c.args.column (c.loop-at.at - 1) ≡ next_filed (rows_in c.args.places.now c.args.count) c.args.column (cell_bucket (g.K.Key.cell c.args.key.now)) (suc (c.loop-at.at - 1))
 linked g c =
     let long = length_rows c.args.places.now c.args.count c.requires.within.0 in
     let low = c.loop-at.invariant.low in
     c.requires.links (cell_bucket (g.K.Key.cell c.args.key.now)) (c.loop-at.at - 1) (omega arith) (c.loop-at.invariant.here (omega arith))
 
-again : (g : _) (c : goal.After-at·1 g) → Walk (rows_in c.args.places.now c.args.count) c.args.column (g.K.Key.cell c.args.key.now) c.args.after c.args.start.now.behind (link_in c.args.places.now c.args.column (c.loop-at.at - 1)) (c.loop-at.visited + 1)
+again : (g : _) (c : goal.After-at-1 g) → Walk (rows_in c.args.places.now c.args.count) c.args.column (g.K.Key.cell c.args.key.now) c.args.after c.args.start.now.behind (link_in c.args.places.now c.args.column (c.loop-at.at - 1)) (c.loop-at.visited + 1)
 again g c =
     let ps = c.args.places.now in
     let rows = rows_in ps c.args.count in

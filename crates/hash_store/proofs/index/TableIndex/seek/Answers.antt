@@ -31,8 +31,8 @@ module _ (x : TableIndex) (ps : List Place) (e : ps ≡ vec_items x.places) wher
             ∙ ap (λ c. visits (rows_in ps x.count) column c after) (sym same) ∙ ap (λ rs. visits rs column key after) rows_same,
       )
 
-pub start-at-start-requires : goal.start-at-start-requires
-start-at-start-requires c =
+pub start_at-start-requires : goal.start_at-start-requires
+start_at-start-requires c =
     let x = c.args.self.now in
     let at = column_chained x c.deref-places.result.now c.deref-places.ensures.value c.args.column c.requires in
     record {
@@ -46,23 +46,23 @@ walk-requires c =
     let fits : SFits w64 c.in-Number.z = search rules in
     let kept = sym (to_z-of_z w64 c.in-Number.z fits) in
     let x = c.args.self.now in
-    let s = c.start-at-start.ensures in
+    let s = c.start_at-start.ensures in
     let at = column_chained x c.deref-places.result.now c.deref-places.ensures.value c.args.column c.requires in
     record {
       within = (placed x c.deref-places.result.now c.deref-places.ensures.value, c.requires.0, c.requires.1, s.within.0, s.within.1);
       links = at.1;
-      at = s.at ∙ ap (λ b. next_filed (rows_in c.deref-places.result.now x.count) c.args.column b c.start-at-start.result.behind) (c.bucket-b.ensures.value ∙ ap cell_bucket (c.in-Number.is ∙ ap cell.Number kept));
+      at = s.at ∙ ap (λ b. next_filed (rows_in c.deref-places.result.now x.count) c.args.column b c.start_at-start.result.behind) (c.bucket-b.ensures.value ∙ ap cell_bucket (c.in-Number.is ∙ ap cell.Number kept));
     }
 
 pub walk-requires-in-Code : goal.walk-requires-in-Code
 walk-requires-in-Code c =
     let x = c.args.self.now in
-    let s = c.start-at-start.ensures in
+    let s = c.start_at-start.ensures in
     let at = column_chained x c.deref-places.result.now c.deref-places.ensures.value c.args.column c.requires in
     record {
       within = (placed x c.deref-places.result.now c.deref-places.ensures.value, c.requires.0, c.requires.1, s.within.0, s.within.1);
       links = at.1;
-      at = s.at ∙ ap (λ b. next_filed (rows_in c.deref-places.result.now x.count) c.args.column b c.start-at-start.result.behind) (c.bucket-b.ensures.value ∙ ap cell_bucket c.in-Code.is);
+      at = s.at ∙ ap (λ b. next_filed (rows_in c.deref-places.result.now x.count) c.args.column b c.start_at-start.result.behind) (c.bucket-b.ensures.value ∙ ap cell_bucket c.in-Code.is);
     }
 
 pub returns-in-Number : goal.returns-in-Number
@@ -71,12 +71,12 @@ returns-in-Number c =
     let kept = sym (to_z-of_z w64 c.in-Number.z fits) in
     let w = c.walk.ensures in
     let f = sought c.args.self.now c.deref-places.result.now c.deref-places.ensures.value c.args.column c.args.key (cell.Number (to_z w64 (of_z w64 c.in-Number.z))) c.args.after c.bucket-b.result
-    c.start-at-start.result.behind c.walk.result.row c.walk.result.visited (c.in-Number.is ∙ ap cell.Number kept) c.bucket-b.ensures.value c.start-at-start.ensures.behind w.row w.visited in
+    c.start_at-start.result.behind c.walk.result.row c.walk.result.visited (c.in-Number.is ∙ ap cell.Number kept) c.bucket-b.ensures.value c.start_at-start.ensures.behind w.row w.visited in
     record { row = f.0; visited = f.1 }
 
 pub returns-in-Code : goal.returns-in-Code
 returns-in-Code c =
     let w = c.walk-in-Code.ensures in
     let f = sought c.args.self.now c.deref-places.result.now c.deref-places.ensures.value c.args.column c.args.key (cell.Code c.in-Code.c) c.args.after c.bucket-b.result
-    c.start-at-start.result.behind c.walk-in-Code.result.row c.walk-in-Code.result.visited c.in-Code.is c.bucket-b.ensures.value c.start-at-start.ensures.behind w.row w.visited in
+    c.start_at-start.result.behind c.walk-in-Code.result.row c.walk-in-Code.result.visited c.in-Code.is c.bucket-b.ensures.value c.start_at-start.ensures.behind w.row w.visited in
     record { row = f.0; visited = f.1 }

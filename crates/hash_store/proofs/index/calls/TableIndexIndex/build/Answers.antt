@@ -20,7 +20,7 @@ returns-then-self c =
 pub add-requires : goal.add-requires
 add-requires c =
     let x = c.args.self.now in
-    let e = c.deref-mut.ensures.value in
+    let e = c.deref_mut.ensures.value in
     let placed = room_placed x in
     let lt = c.if-self.false in
     record {
@@ -29,35 +29,36 @@ add-requires c =
     }
 
 -- the places and the rows behind the build
-module _ (x : TableIndex) (row : Row) (stamp : ℕ) (ps qs : List Place) (e : ps ≡ vec_items x.places) (rows : rows_in qs (x.count + 1) ≡ rows_in ps x.count ++ built_row row stamp ∷ []) (long : length qs ≡ vec_len x.places) where
-  rows_then : rows_in qs (x.count + 1) ≡ (table_of x).rows ++ built_row row stamp ∷ []
-  rows_then = rows ∙ ap (λ (ps : List Place). rows_in ps x.count ++ built_row row stamp ∷ []) e
-
+module _ (x : TableIndex) (row : Row) (stamp : ℕ) (ps qs : List Place) (e : ps ≡ vec_items x.places) (rows : rows_in qs (x.count + 1) ≡ rows_in ps x.count ++ built_row row stamp ∷ []) (long : length qs ≡ vec_len x.places) (n : ℕ) (more : n ≡ x.count + 1) where
   items_then : vec_items (with_items x.places qs) ≡ qs
   items_then = with_items_is x.places qs long
 
-pub invariant-of-self : goal.invariant-of-self
-invariant-of-self c =
+  rows_then : rows_in (vec_items (with_items x.places qs)) n ≡ (table_of x).rows ++ built_row row stamp ∷ []
+  rows_then = (λ i. rows_in (items_then i) (more i)) ∙ rows ∙ ap (λ (ps : List Place). rows_in ps x.count ++ built_row row stamp ∷ []) e
+
+  chained_then : (heads tails : List ℕ) → AllChained (rows_in qs (x.count + 1)) qs heads tails → AllChained (rows_in (vec_items (with_items x.places qs)) n) (vec_items (with_items x.places qs)) heads tails
+  chained_then heads tails h =
+      subst (λ (m : ℕ). AllChained (rows_in (vec_items (with_items x.places qs)) m) (vec_items (with_items x.places qs)) heads tails) (sym more)
+      (subst (λ (zs : List Place). AllChained (rows_in zs (x.count + 1)) zs heads tails) (sym items_then) h)
+
+pub invariant_of-self-clause-chained : goal.invariant_of-self-clause-chained
+invariant_of-self-clause-chained c =
+    ∣ chained_then c.args.self.now c.args.row c.args.stamp c.deref_mut.result.now c.add.new.places c.deref_mut.ensures.value c.add.ensures.rows (c.add.auto.places ∙ c.deref_mut.ensures.len) _ (omega arith) c.add.new.heads c.add.new.tails c.add.ensures.chained ∣₁
+
+pub invariant_of-self-clause-narrow : goal.invariant_of-self-clause-narrow
+invariant_of-self-clause-narrow c =
     let x = c.args.self.now in
     let six : length c.args.row.cells ≡ 6 = search rules in
     let few : length (built_row c.args.row c.args.stamp).cells ≤ 6 = omega (arith, length-take c.args.row.len c.args.row.cells) in
-    let narrow = subst AllNarrow (sym (rows_then c.args.self.now c.args.row c.args.stamp c.deref-mut.result.now c.add.new.places c.deref-mut.ensures.value c.add.ensures.rows (c.add.auto.places ∙ c.deref-mut.ensures.len))) (narrow_push (table_of x).rows (built_row c.args.row c.args.stamp) x.narrow few) in (
-      search rules,
-      (
-        ∣ subst (λ (qs : List Place). AllChained (rows_in qs (x.count + 1)) qs c.add.new.heads c.add.new.tails) (sym (items_then c.args.self.now c.args.row c.args.stamp c.deref-mut.result.now c.add.new.places c.deref-mut.ensures.value c.add.ensures.rows (c.add.auto.places ∙ c.deref-mut.ensures.len))) c.add.ensures.chained ∣₁,
-        (
-          subst (λ (qs : List Place). AllNarrow (rows_in qs (x.count + 1))) (sym (items_then c.args.self.now c.args.row c.args.stamp c.deref-mut.result.now c.add.new.places c.deref-mut.ensures.value c.add.ensures.rows (c.add.auto.places ∙ c.deref-mut.ensures.len))) narrow,
-          tt,
-        ),
-      ),
-    )
+    subst AllNarrow (sym (rows_then c.args.self.now c.args.row c.args.stamp c.deref_mut.result.now c.add.new.places c.deref_mut.ensures.value c.add.ensures.rows (c.add.auto.places ∙ c.deref_mut.ensures.len) _ (omega arith)))
+    (narrow_push (table_of x).rows (built_row c.args.row c.args.stamp) x.narrow few)
 
 pub returns : goal.returns
 returns c =
     let x = c.args.self.now in
     let open_is = open_below x (omega (arith, c.if-self.false)) in
-    let rows = ap (λ (qs : List Place). rows_in qs (x.count + 1)) (items_then c.args.self.now c.args.row c.args.stamp c.deref-mut.result.now c.add.new.places c.deref-mut.ensures.value c.add.ensures.rows (c.add.auto.places ∙ c.deref-mut.ensures.len)) ∙ rows_then c.args.self.now c.args.row c.args.stamp c.deref-mut.result.now c.add.new.places c.deref-mut.ensures.value c.add.ensures.rows (c.add.auto.places ∙ c.deref-mut.ensures.len) in
     record {
-      after = ap (λ (rs : List Built). record { rows = rs; room = x.room }) rows ∙ ap (λ b. cond b (grown (table_of x) (built_row c.args.row c.args.stamp)) (table_of x)) (sym open_is);
+      after = ap (λ (rs : List Built). record { rows = rs; room = x.room }) (rows_then c.args.self.now c.args.row c.args.stamp c.deref_mut.result.now c.add.new.places c.deref_mut.ensures.value c.add.ensures.rows (c.add.auto.places ∙ c.deref_mut.ensures.len) _ (omega arith))
+          ∙ ap (λ b. cond b (grown (table_of x) (built_row c.args.row c.args.stamp)) (table_of x)) (sym open_is);
       answer = sym open_is;
     }

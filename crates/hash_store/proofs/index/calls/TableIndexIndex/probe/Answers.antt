@@ -1,9 +1,9 @@
-use Rattle.std.proofs.Common.{◌≡◌, ◌<◌, ◌⊎◌, Some, sym, ap, ◌∙◌, inl, inr, ⊎_elim}
+use Rattle.std.proofs.Common.{◌≡◌, ◌<◌, ◌⊎◌, sym, inl, inr, ⊎_elim, rules}
 use Rattle.stores.specs.Tables.{matches}
 use Rattle.hash_store.specs.Indexes.{table_of}
 use Rattle.hash_store.specs.Answering.{no_column, no_visits}
 use Rattle.hash_store.proofs.Draining.{drain_law}
-use Rattle.hash_store.specs.Zero.{zero_none, other_some}
+use Rattle.hash_store.specs.Zero.{zero_none}
 use Rattle.hash_store.proofs.index.calls.TableIndexIndex.probe.Goals as goal
 
 pub returns-then-column-eq0 : goal.returns-then-column-eq0
@@ -16,20 +16,11 @@ returns-then-column-eq0 c =
       law = drain_law;
     }
 
-pub returns-then-walked-eq0 : goal.returns-then-walked-eq0
-returns-then-walked-eq0 c =
-    let e = c.seek-walked.ensures in
-    record {
-      value = sym (zero_none (matches c.args.column c.args.key) c.args.after (table_of c.args.self.now).rows (sym e.row ∙ c.if-walked-eq0.true));
-      cost = e.visited;
-      law = drain_law;
-    }
+pub returns-then-walked-eq0-clause-value : goal.returns-then-walked-eq0-clause-value
+returns-then-walked-eq0-clause-value c = sym (zero_none (matches c.args.column c.args.key) c.args.after (table_of c.args.self.now).rows (search rules))
 
-pub returns : goal.returns
-returns c =
-    let e = c.seek-walked.ensures in
-    record {
-      value = ap Some e.row ∙ sym (other_some (matches c.args.column c.args.key) c.args.after (table_of c.args.self.now).rows (λ z. c.if-walked-eq0.false (e.row ∙ z)));
-      cost = e.visited;
-      law = drain_law;
-    }
+pub returns-then-walked-eq0-clause-law : goal.returns-then-walked-eq0-clause-law
+returns-then-walked-eq0-clause-law c = drain_law
+
+pub returns-clause-law : goal.returns-clause-law
+returns-clause-law c = drain_law
