@@ -12,11 +12,11 @@ loop-c-preserved c =
     let ms = c.loop-c.filled in
     let xs = cells_of c.args.row in
     let long : length ms ≡ 6 = c.loop-c.auto.filled ∙ c.requires.within.1 in
-    added_more xs c.args.number c.args.room c.args.entries.now c.args.filled.now i c.cell.result fs c.add-cell.new.entries ms c.add-cell.new.filled
+    added_more xs c.args.number c.args.room c.args.entries.now c.args.filled.now i c.cell.result fs c.add_cell.new.entries ms c.add_cell.new.filled
     (omega (arith, c.loop-c-test.true))
     (λ o. omega (arith, added_few xs c.args.number c.args.room c.args.entries.now c.args.filled.now i fs ms c.loop-c.invariant o, c.requires.few o))
     (c.cell.ensures.value ∙ ap (numbered xs) (add-one i))
-    c.add-cell.ensures.filled c.add-cell.ensures.here c.add-cell.ensures.others c.loop-c.invariant
+    c.add_cell.ensures.filled c.add_cell.ensures.here c.add_cell.ensures.others c.loop-c.invariant
 
 pub returns : goal.returns
 returns c =

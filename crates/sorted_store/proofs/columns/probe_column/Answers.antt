@@ -16,8 +16,8 @@ returns-then-column-eq0 c =
       cost = λ rows counts. let none = no_having rows c.args.entries.now c.args.filled.now c.args.room six column out counts in (omega arith, omega arith);
     }
 
-pub probe-at-requires : goal.probe-at-requires
-probe-at-requires c =
+pub probe_at-requires : goal.probe_at-requires
+probe_at-requires c =
     let i = c.args.column - 1 in
     let ends = stretch_end i 6 c.args.room (omega arith) in
     omega (arith, c.requires.few i, c.requires.within.0)
@@ -30,7 +30,7 @@ returns c =
     let ns = c.args.filled.now in
     record {
       value = λ rows sorts lists.
-          listed_next rows (suc i) c.args.key c.args.after (listed es ns c.args.room i) c.probe-at.result.row (lists i) (c.probe-at.ensures.value (sorts i))
+          listed_next rows (suc i) c.args.key c.args.after (listed es ns c.args.room i) c.probe_at.result.row (lists i) (c.probe_at.ensures.value (sorts i))
           ∙ ap (λ k. next_after (matches k c.args.key) c.args.after rows) is;
-      cost = λ rows counts. subst (λ n. Logarithmic n c.probe-at.result.visited) (counts i ∙ ap (λ k. having k rows) is) c.probe-at.ensures.cost;
+      cost = λ rows counts. subst (λ n. Logarithmic n c.probe_at.result.visited) (counts i ∙ ap (λ k. having k rows) is) c.probe_at.ensures.cost;
     }

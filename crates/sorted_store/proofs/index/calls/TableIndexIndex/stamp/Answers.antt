@@ -1,4 +1,4 @@
-use Rattle.std.proofs.Common.{vec_items, sym, ap, arith}
+use Rattle.std.proofs.Common.{vec_items, sym, ap, arith, rules}
 use Rattle.stores.specs.Tables.{stamp_of}
 use Rattle.sorted_store.specs.Rows.{row_read, row_past}
 use Rattle.sorted_store.specs.Indexed.{count_placed}
@@ -12,4 +12,5 @@ returns-then-row-self c =
 pub returns : goal.returns
 returns c =
     let x = c.args.self.now in
-    record { value = sym (ap stamp_of (row_read (vec_items x.places) x.count (count_placed x) c.args.row c.index.result.now (omega arith) (omega arith) c.index.ensures)) }
+    let read = ap stamp_of (row_read (vec_items x.places) x.count (count_placed x) c.args.row c.index.result.now (omega arith) (omega arith) c.index.ensures) in
+    search rules
