@@ -3,7 +3,7 @@ ghost use Rattle.std.specs.Prelude.{◌≡◌, map, replicate, is_ok, if◌then�
 ghost use Rattle.std.specs.List.{AllByRecursion};
 ghost use Rattle.stores.specs.Tables.{has_room, built, next_row};
 ghost use Rattle.caching.specs.Memory.{Right, recalled, kept, remembered, turned, NotAsked};
-ghost use Rattle.std.proofs.Common.{rules, arith};
+ghost use Rattle.std.proofs.Common.{rules};
 
 use crate::cache::Cached;
 use crate::memory::{forget, recall};
