@@ -4,15 +4,16 @@
 ghost use Rattle.std.specs.Prelude.{◌≡◌};
 ghost use Rattle.basis.specs.Lists.{numbered};
 
+// What a search came to, and how many places it looked at for that.
+#[derive(Clone, Copy, Debug, PartialEq, Eq)]
+pub struct Probed<T> {
+    pub found: T,
+    pub visited: usize,
+}
+
 // The element with a number, counted from 1, if there is one.
 pub fn numbered<T: Copy>(xs: &[T], number: usize) -> Option<T>
     ensures value { result ≡ numbered xs.now number }
 {
-    if number == 0 {
-        return None;
-    }
-    if number > xs.len() {
-        return None;
-    }
-    Some(xs[number - 1])
+    xs.get(number.checked_sub(1)?).copied()
 }
