@@ -1,5 +1,5 @@
 // What a table's index is asked: build, count, cell, stamp and probe.
-ghost use Rattle.std.specs.Prelude.{◌≡◌, min, [], vec_len};
+ghost use Rattle.std.specs.Prelude.{◌≡◌, min, [], vec_len, IfOk};
 ghost use Rattle.std.proofs.Common.{sym};
 ghost use Rattle.stores.specs.Tables.{matches, next_after};
 ghost use Rattle.hash_store.specs.Buckets.{or_zero, visits};
@@ -16,9 +16,18 @@ use crate::walks::{Walked, bucket, start_at, walk};
 use cells::rows::Row;
 use cells::types::Cell;
 use six_tables::{Index, Probed};
+use std::alloc::{AllocError, Global};
 use stores::BuildRefusal;
 
 impl TableIndex {
+    // An empty table for as many rows as wanted, at most 1,024, in places of its own.
+    pub fn with_room(heap: Global, wanted: usize) -> Result<TableIndex, AllocError>
+        ensures value { IfOk result (λ x. table_of x ≡ record { rows = []; room = min wanted 1024 }) }
+    {
+        let places = vec![in heap; Place::EMPTY; wanted.min(1024)]?;
+        Ok(TableIndex::new(wanted, places))
+    }
+
     // An empty table in the places given, with the least of the capacity wanted, 1,024 and the places.
     pub fn new(wanted: usize, places: Vec<Place>) -> TableIndex
         ensures value { table_of result ≡ record { rows = []; room = min wanted (min 1024 (vec_len places)) } }

@@ -1,5 +1,5 @@
 // What a table's indexes are asked: build, count, cell, stamp and probe.
-ghost use Rattle.std.specs.Prelude.{◌≡◌, ◌/◌, min, [], vec_len};
+ghost use Rattle.std.specs.Prelude.{◌≡◌, ◌/◌, min, [], vec_len, IfOk};
 ghost use Rattle.sorted_index.specs.Sorting.{Logarithmic};
 ghost use Rattle.sorted_store.specs.Columns.{having};
 ghost use Rattle.sorted_store.specs.Indexes.{table_of};
@@ -13,9 +13,20 @@ use cells::rows::Row;
 use cells::types::Cell;
 use six_tables::{Index, Probed};
 use sorted_index::entry::Entry;
+use std::alloc::{AllocError, Global};
 use stores::BuildRefusal;
 
 impl TableIndex {
+    // An empty table for as many rows as wanted, at most 1,024, in places of its own.
+    pub fn with_room(heap: Global, wanted: usize) -> Result<TableIndex, AllocError>
+        ensures value { IfOk result (λ x. table_of x ≡ record { rows = []; room = min wanted 1024 }) }
+    {
+        let rows = wanted.min(1024);
+        let places = vec![in heap; Place::EMPTY; rows]?;
+        let entries = vec![in heap; Place::EMPTY_ENTRY; 6 * rows]?;
+        Ok(TableIndex::new(wanted, places, entries))
+    }
+
     // An empty table, with the least of the capacity wanted, 1,024 and the row places given: a row takes one place and six entries.
     pub fn new(wanted: usize, places: Vec<Place>, entries: Vec<Entry<Cell>>) -> TableIndex
         ensures value { table_of result ≡ record { rows = []; room = min wanted (min 1024 (min (vec_len places) (vec_len entries / 6))) } }
