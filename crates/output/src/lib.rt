@@ -1,13 +1,26 @@
 // Writing a line into a caller's buffer, from a place on.
 #![tactic(auto)]
 
-ghost use Rattle.std.specs.Prelude.{◌≡◌, ◌+◌, ◌≤◌, [], ◌∷◌, length, is_ok, if◌then◌else◌, nat_le};
+ghost use Rattle.std.specs.Prelude.{◌≡◌, ◌+◌, ◌≤◌, [], ◌∷◌, length, Some, is_ok, if◌then◌else◌, nat_le, codes};
 ghost use Rattle.rules.specs.Calls.{laid};
 ghost use Rattle.output.specs.Puts.{Puts};
 
+use std::error::Error;
+use std::fmt;
+
 // The buffer ends before the line does.
-#[derive(Clone, Copy)]
+#[derive(Clone, Copy, Debug, PartialEq, Eq)]
 pub struct Full {}
+
+impl fmt::Display for Full {
+    ghost output = { λ _. Some (codes "the line does not fit") };
+
+    fn fmt<W: fmt::Write>(&self, f: &mut fmt::Formatter<W>) -> fmt::Result {
+        write!(f, "the line does not fit")
+    }
+}
+
+impl Error for Full {}
 
 // Holds the place while a line is written, and puts it back at its end unless the whole line was written.
 struct PlaceGuard<'a> {
@@ -20,17 +33,18 @@ impl Drop for PlaceGuard<'_> {
     fn drop(self)
         ensures { self.exit.0.now ≡ (if self.entry.whole then self.entry.place.now else self.entry.start) }
     {
-        if !self.whole {
-            *self.place = self.start;
-        }
         let PlaceGuard {
-            place: _,
-            start: _,
-            whole: _,
+            place,
+            start,
+            whole,
         } = self;
+        if !whole {
+            *place = start;
+        }
     }
 }
 
+#[tactic(auto, using(std::proofs::lemmas::List::set_past))]
 fn put(out: &mut [u8], place: &mut usize, byte: u8) -> Result<(), Full>
     requires { place.old ≤ length out.old }
     ensures { Puts out.old place.old (byte ∷ []) out.new place.new (is_ok result) }
