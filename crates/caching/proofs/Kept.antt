@@ -15,14 +15,14 @@ use Rattle.caching.specs.Memory.{right_answer, Right, same_question, recalled, k
 
 same_asked : (a b : Asked) → same_question a b ≡ true → a ≡ b
 same_asked a b e =
-    let p = and_parts (eqb a.table b.table) (eqb a.column b.column && (eqb a.after b.after && same_cell a.key b.key)) e in
-    let q = and_parts (eqb a.column b.column) (eqb a.after b.after && same_cell a.key b.key) p.1 in
-    let r = and_parts (eqb a.after b.after) (same_cell a.key b.key) q.1 in
+    let p = and_parts (eqb a.table b.table) (eqb a.question.column b.question.column && (eqb a.question.after b.question.after && same_cell a.question.key b.question.key)) e in
+    let q = and_parts (eqb a.question.column b.question.column) (eqb a.question.after b.question.after && same_cell a.question.key b.question.key) p.1 in
+    let r = and_parts (eqb a.question.after b.question.after) (same_cell a.question.key b.question.key) q.1 in
     let t = eqb-true a.table b.table p.0 in
-    let c = eqb-true a.column b.column q.0 in
-    let f = eqb-true a.after b.after r.0 in
-    let k = (same_cell_decides a.key b.key).0 r.1 in
-    λ i. record { table = t i; column = c i; key = k i; after = f i }
+    let c = eqb-true a.question.column b.question.column q.0 in
+    let f = eqb-true a.question.after b.question.after r.0 in
+    let k = (same_cell_decides a.question.key b.question.key).0 r.1 in
+    λ i. record { table = t i; question = record { column = c i; key = k i; after = f i } }
 
 -- a memory is looked through place by place
 module _ (q : Asked) (places : List (Option Remembered)) where
@@ -76,12 +76,12 @@ module _ (ts : List Table) where
     -- what a build leaves is right after it
     still : (e : Remembered) (a : Option ℕ) → a ≡ right_answer ts e.asked → (b : Bool) → eqb e.asked.table t ≡ b
         → Right (built ts t row stamp) (cond (b && not (is_some a)) None (Some (record { asked = e.asked; answer = a })))
-    still e (Some n) h true q = sym (next_built ts t row stamp e.asked.table e.asked.column e.asked.key e.asked.after n (sym h))
-    still e (Some n) h false q = sym (next_built ts t row stamp e.asked.table e.asked.column e.asked.key e.asked.after n (sym h))
+    still e (Some n) h true q = sym (next_built ts t row stamp e.asked.table e.asked.question.column e.asked.question.key e.asked.question.after n (sym h))
+    still e (Some n) h false q = sym (next_built ts t row stamp e.asked.table e.asked.question.column e.asked.question.key e.asked.question.after n (sym h))
     still e None h true q = tt
     still e None h false q =
         let apart : e.asked.table ≡ t → ⊥ = λ same. both_ways (eqb e.asked.table t) q (eq-eqb e.asked.table t same) in
-        h ∙ sym (next_other ts t row stamp e.asked.table e.asked.column e.asked.key e.asked.after apart)
+        h ∙ sym (next_other ts t row stamp e.asked.table e.asked.question.column e.asked.question.key e.asked.question.after apart)
 
     kept_right : (o : Option Remembered) → Right ts o → Right (built ts t row stamp) (kept t o)
     kept_right None h = tt

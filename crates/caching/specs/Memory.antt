@@ -1,5 +1,7 @@
 -- What is remembered of the questions that were asked.
 use Rattle.std.specs.Prelude.{◌≡◌, ℕ, ◌+◌, ◌%◌, Bool, cond, not, ◌&&◌, List, [], ◌∷◌, is_some, Some, None, Option, ◌==◌, slice_set}
+use Rattle.std.specs.List.{AllByRecursion}
+use Rattle.std.specs.Coded.{Coded-set, coded_option, coded_ℕ, ×_prop, Unit-prop}
 use Rattle.keys.specs.Keys.{same_cell}
 use Rattle.stores.specs.Tables.{Table, next_row}
 use Rattle.caching.specs.declared.types.Asked.{Asked}
@@ -7,16 +9,25 @@ use Rattle.caching.specs.declared.types.Remembered.{Remembered}
 
 -- what a store with these tables answers to a question
 abbrev pub right_answer : List Table → Asked → Option ℕ
-right_answer ts q = next_row ts q.table q.column q.key q.after
+right_answer ts q = next_row ts q.table q.question.column q.question.key q.question.after
 
 -- a place is empty, or remembers what the store would answer
 abbrev pub Right : List Table → Option Remembered → Type 0
 Right ts None = Unit {0}
 Right ts (Some e) = e.answer ≡ right_answer ts e.asked
 
+Right-prop : (ts : List Table) (place : Option Remembered) → IsProp (Right ts place)
+Right-prop ts None = Unit-prop
+Right-prop ts (Some e) = Coded-set (coded_option coded_ℕ) e.answer (right_answer ts e.asked)
+
+-- a memory can be right in one way only
+pub all_right-prop : (ts : List Table) (places : List (Option Remembered)) → IsProp (AllByRecursion (Right ts) places)
+all_right-prop ts [] = Unit-prop
+all_right-prop ts (place ∷ places) = ×_prop (Right-prop ts place) (all_right-prop ts places)
+
 abbrev pub same_question : Asked → Asked → Bool
 same_question a b =
-    (a.table == b.table) && (a.column == b.column && (a.after == b.after && same_cell a.key b.key))
+    (a.table == b.table) && (a.question.column == b.question.column && (a.question.after == b.question.after && same_cell a.question.key b.question.key))
 
 -- the answer in the first place that remembers the question
 abbrev pub recalled : List (Option Remembered) → Asked → Option (Option ℕ)

@@ -8,7 +8,10 @@ use keys::Key;
 fn same_question(a: &Asked, b: &Asked) -> bool
     ensures value { result ≡ same_question a.now b.now }
 {
-    a.table == b.table && a.column == b.column && a.after == b.after && a.key.same(&b.key)
+    a.table == b.table
+        && a.question.column == b.question.column
+        && a.question.after == b.question.after
+        && a.question.key.same(&b.question.key)
 }
 
 // The answer in a place, if it remembers the question.

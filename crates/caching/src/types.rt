@@ -1,13 +1,11 @@
 // A question and its answer.
-use cells::types::Cell;
+use stores::Question;
 
-// What `next` is asked.
+// What a store is asked, of which table.
 #[derive(Clone, Copy)]
 pub struct Asked {
     pub table: usize,
-    pub column: usize,
-    pub key: Cell,
-    pub after: usize,
+    pub question: Question,
 }
 
 #[derive(Clone, Copy)]

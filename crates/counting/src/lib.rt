@@ -8,7 +8,7 @@ ghost use Rattle.std.proofs.Common.{rules};
 
 use cells::rows::Row;
 use cells::types::Cell;
-use stores::{BuildRefusal, Store};
+use stores::{BuildRefusal, Question, Store};
 
 // A store, and how often `next` was asked of each of its tables.
 #[derive(Drop)]
@@ -58,8 +58,6 @@ impl<S: Store> Counting<S> {
 impl<S: Store> Store for Counting<S> {
     ghost tables = { λ s. S.Store.tables s.inner };
 
-    ghost sound = { λ s. S.Store.sound s.inner };
-
     ghost six = { Prim.search rules };
 
     ghost within_room = { Prim.search rules };
@@ -80,14 +78,12 @@ impl<S: Store> Store for Counting<S> {
         self.inner.stamp(table, row)
     }
 
-    fn next(&mut self, table: usize, column: usize, key: Cell, after: usize) -> Option<usize>
-        requires { S.Store.sound self.old.inner }
-        ensures sound { S.Store.sound self.new.inner }
+    fn next(&mut self, table: usize, question: Question) -> Option<usize>
         ensures same { S.Store.tables self.new.inner ≡ S.Store.tables self.old.inner }
-        ensures value { result ≡ next_row (S.Store.tables self.old.inner) table column key after }
+        ensures value { result ≡ next_row (S.Store.tables self.old.inner) table question.column question.key question.after }
         ensures counted { self.new.asked ≡ one_more self.old.asked table }
     {
         count_one(&mut self.asked, table);
-        self.inner.next(table, column, key, after)
+        self.inner.next(table, question)
     }
 }

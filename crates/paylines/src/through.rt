@@ -8,10 +8,7 @@ use query::drafts::Draft;
 use stores::Store;
 
 // Builds the rows of a table, numbered on from `stamp`; a row that finds no room is left out.
-fn build_rows<S: Store>(store: &mut S, table: usize, rows: &[Row], stamp: u64)
-    requires { S.Store.sound store.old }
-    ensures { S.Store.sound store.new }
-{
+fn build_rows<S: Store>(store: &mut S, table: usize, rows: &[Row], stamp: u64) {
     let mut stamp = stamp;
     for row in rows {
         stamp = stamp.saturating_add(1);
@@ -19,10 +16,7 @@ fn build_rows<S: Store>(store: &mut S, table: usize, rows: &[Row], stamp: u64)
     }
 }
 
-fn build_all<S: Store>(store: &mut S, tables: &[Vec<Row>])
-    requires { S.Store.sound store.old }
-    ensures { S.Store.sound store.new }
-{
+fn build_all<S: Store>(store: &mut S, tables: &[Vec<Row>]) {
     for t in 0..tables.len() {
         build_rows(store, t, tables[t].as_slice(), 0);
     }
@@ -55,9 +49,7 @@ pub(crate) fn show<S: Store + Drop>(
     tables: &[Vec<Row>],
     lines: &[u8],
     store: S,
-) -> Result<(), Fault>
-    requires { S.Store.sound store }
-{
+) -> Result<(), Fault> {
     let mut store = Counting::over(store);
     build_all(&mut store, tables);
     let found = probes::answer(rt.alloc(), draft, &mut store)?;
@@ -72,9 +64,7 @@ pub(crate) fn show_cached<S: Store + Drop>(
     tables: &[Vec<Row>],
     lines: &[u8],
     store: S,
-) -> Result<(), Fault>
-    requires { S.Store.sound store }
-{
+) -> Result<(), Fault> {
     let mut store = Cached::over(Counting::over(store));
     build_all(&mut store, tables);
     let found = probes::answer(rt.alloc(), draft, &mut store)?;

@@ -7,18 +7,12 @@ ghost use Rattle.cells.specs.declared.types.Cell.{Cell};
 ghost use Rattle.stores.specs.Tables.{Built, Table, cell_of, stamp_of, matches, next_after};
 ghost use Rattle.six_tables.specs.Indexes.{is_open, built_in};
 
+use basis::Probed;
 use cells::rows::Row;
 use cells::types::Cell;
-use stores::BuildRefusal;
+use stores::{BuildRefusal, Question};
 
 pub mod store;
-
-// A question's answer, and how many places were looked at for it.
-#[derive(Clone, Copy)]
-pub struct Probed {
-    pub row: Option<usize>,
-    pub visited: usize,
-}
 
 // One table: its rows, and a way to find them. What it has to keep stands in its type.
 pub trait Index {
@@ -45,9 +39,9 @@ pub trait Index {
         ensures value { result ≡ stamp_of (numbered (table self.now).rows row) };
 
     // The least row above `after` whose cell in the column equals the key, and what finding it costs.
-    fn probe(&self, column: usize, key: Cell, after: usize) -> Probed
-        ensures value { result.row ≡ next_after (matches column key) after (table self.now).rows }
-        ensures cost { costs (table self.now).rows column key after result.visited };
+    fn probe(&self, question: Question) -> Probed<Option<usize>>
+        ensures value { result.found ≡ next_after (matches question.column question.key) question.after (table self.now).rows }
+        ensures cost { costs (table self.now).rows question.column question.key question.after result.visited };
 
     ghost within_room: { (x : Self) → (length (table x).rows ≤ (table x).room) × ((table x).room ≤ 1024) };
 

@@ -8,15 +8,12 @@ use cells::types::Cell;
 use six_tables::Index;
 use six_tables::store::SixTables;
 use std::io;
-use stores::Store;
+use stores::{Question, Store};
 
 const ROWS: usize = 1024;
 
 // Fills table 0 with 1,024 rows that have so many keys, in turn.
-fn fill<S: Store>(store: &mut S, keys: usize)
-    requires { S.Store.sound store.old }
-    ensures { S.Store.sound store.new }
-{
+fn fill<S: Store>(store: &mut S, keys: usize) {
     let mut key = 0;
     for i in 0..ROWS {
         let row = Row {
@@ -42,9 +39,16 @@ fn drain<T: Index>(store: &SixTables<T>) -> Drained {
     let mut after = 0;
     let mut visited: usize = 0;
     for rows in 0..ROWS {
-        let probed = store.probe(0, 1, Cell::Number(0), after);
+        let probed = store.probe(
+            0,
+            Question {
+                column: 1,
+                key: Cell::Number(0),
+                after,
+            },
+        );
         visited = visited.saturating_add(probed.visited);
-        match probed.row {
+        match probed.found {
             Some(n) => after = n,
             None => return Drained { rows, visited },
         }

@@ -15,45 +15,43 @@ pub enum BuildRefusal {
     Full,
 }
 
+// What `next` is asked of a table.
+#[derive(Clone, Copy)]
+pub struct Question {
+    pub column: usize,
+    pub key: Cell,
+    pub after: usize,
+}
+
 // A store of six tables, 0 to 5. Its meaning is `tables`; there is no other table, so one above 5 is empty and full.
 pub trait Store {
     ghost tables: { Self → List Table };
 
-    // What a value has to keep for its calls to answer by its meaning. Every constructor gives it.
-    ghost sound: { Self → Type 0 };
-
     // Adds a row at the end of a table. Refused, with nothing changed, exactly when the table holds its capacity.
     fn build(&mut self, table: usize, row: Row, stamp: u64) -> Result<(), BuildRefusal>
-        requires { sound self.old }
-        ensures sound { sound self.new }
         ensures after { tables self.new ≡ built (tables self.old) table row stamp }
         ensures answer { is_ok result ≡ has_room (tables self.old) table };
 
     // How many rows a table holds.
     fn count(&self, table: usize) -> usize
-        requires { sound self.now }
         ensures value { result ≡ count_at (tables self.now) table };
 
     // A row's cell in a column, both counted from 1.
     fn cell(&self, table: usize, row: usize, column: usize) -> Option<Cell>
-        requires { sound self.now }
         ensures value { result ≡ cell_at (tables self.now) table row column };
 
     // A row's build number.
     fn stamp(&self, table: usize, row: usize) -> Option<u64>
-        requires { sound self.now }
         ensures value { result ≡ stamp_at (tables self.now) table row };
 
     // The least row above `after` whose cell in the column equals the key.
-    fn next(&mut self, table: usize, column: usize, key: Cell, after: usize) -> Option<usize>
-        requires { sound self.old }
-        ensures sound { sound self.new }
+    fn next(&mut self, table: usize, question: Question) -> Option<usize>
         ensures same { tables self.new ≡ tables self.old }
-        ensures value { result ≡ next_row (tables self.old) table column key after };
+        ensures value { result ≡ next_row (tables self.old) table question.column question.key question.after };
 
     ghost six: { (s : Self) → length (tables s) ≡ 6 };
 
-    ghost within_room: { (s : Self) → sound s → WithinRoom (tables s) };
+    ghost within_room: { (s : Self) → WithinRoom (tables s) };
 }
 
 // The laws of next and build hold. The contract is the theorem.

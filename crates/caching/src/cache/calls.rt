@@ -1,8 +1,7 @@
 // The calls on a store with a memory.
 ghost use Rattle.std.specs.Prelude.{◌≡◌, map, replicate, is_ok, if◌then◌else◌, None};
-ghost use Rattle.std.specs.List.{AllByRecursion};
 ghost use Rattle.stores.specs.Tables.{has_room, built, next_row};
-ghost use Rattle.caching.specs.Memory.{Right, recalled, kept, remembered, turned, NotAsked};
+ghost use Rattle.caching.specs.Memory.{recalled, kept, remembered, turned, NotAsked};
 ghost use Rattle.std.proofs.Common.{rules};
 
 use crate::cache::Cached;
@@ -10,7 +9,7 @@ use crate::memory::{forget, recall};
 use crate::types::{Asked, Remembered};
 use cells::rows::Row;
 use cells::types::Cell;
-use stores::{BuildRefusal, Store};
+use stores::{BuildRefusal, Question, Store};
 
 impl<S: Store> Cached<S> {
     // Over a store, with nothing remembered yet.
@@ -18,7 +17,6 @@ impl<S: Store> Cached<S> {
         ensures inner { result.inner ≡ inner }
         ensures memory { result.memory ≡ replicate 32 None }
         ensures turn { result.turn ≡ 0 }
-        ensures sound { S.Store.sound inner → S.Store.sound result.inner × AllByRecursion (Right (S.Store.tables result.inner)) result.memory }
     {
         Cached {
             inner,
@@ -31,11 +29,7 @@ impl<S: Store> Cached<S> {
     pub fn into_inner(self) -> S
         ensures value { result ≡ self.inner }
     {
-        let Cached {
-            inner,
-            memory: _,
-            turn: _,
-        } = self;
+        let Cached { inner, .. } = self;
         inner
     }
 }
@@ -43,16 +37,11 @@ impl<S: Store> Cached<S> {
 impl<S: Store> Store for Cached<S> {
     ghost tables = { λ s. S.Store.tables s.inner };
 
-    // The store below is sound, and every remembered answer is the one that it would give.
-    ghost sound = { λ s. S.Store.sound s.inner × AllByRecursion (Right (S.Store.tables s.inner)) s.memory };
-
     ghost six = { Prim.search rules };
 
     ghost within_room = { Prim.search rules };
 
     fn build(&mut self, table: usize, row: Row, stamp: u64) -> Result<(), BuildRefusal>
-        requires { S.Store.sound self.old.inner × AllByRecursion (Right (S.Store.tables self.old.inner)) self.old.memory }
-        ensures sound { S.Store.sound self.new.inner × AllByRecursion (Right (S.Store.tables self.new.inner)) self.new.memory }
         ensures after { S.Store.tables self.new.inner ≡ built (S.Store.tables self.old.inner) table row stamp }
         ensures answer { is_ok result ≡ has_room (S.Store.tables self.old.inner) table }
         ensures forgets { self.new.memory ≡ (if is_ok result then map (kept table) self.old.memory else self.old.memory) }
@@ -77,25 +66,18 @@ impl<S: Store> Store for Cached<S> {
         self.inner.stamp(table, row)
     }
 
-    fn next(&mut self, table: usize, column: usize, key: Cell, after: usize) -> Option<usize>
-        requires { S.Store.sound self.old.inner × AllByRecursion (Right (S.Store.tables self.old.inner)) self.old.memory }
-        ensures sound { S.Store.sound self.new.inner × AllByRecursion (Right (S.Store.tables self.new.inner)) self.new.memory }
+    fn next(&mut self, table: usize, question: Question) -> Option<usize>
         ensures same { S.Store.tables self.new.inner ≡ S.Store.tables self.old.inner }
-        ensures value { result ≡ next_row (S.Store.tables self.old.inner) table column key after }
-        ensures remembers { self.new.memory ≡ remembered self.old.memory self.old.turn (record { table = table; column = column; key = key; after = after }) result }
-        ensures turn { self.new.turn ≡ turned self.old.memory self.old.turn (record { table = table; column = column; key = key; after = after }) }
-        ensures spared { NotAsked (recalled self.old.memory (record { table = table; column = column; key = key; after = after })) self.new.inner self.old.inner }
+        ensures value { result ≡ next_row (S.Store.tables self.old.inner) table question.column question.key question.after }
+        ensures remembers { self.new.memory ≡ remembered self.old.memory self.old.turn (record { table = table; question = question }) result }
+        ensures turn { self.new.turn ≡ turned self.old.memory self.old.turn (record { table = table; question = question }) }
+        ensures spared { NotAsked (recalled self.old.memory (record { table = table; question = question })) self.new.inner self.old.inner }
     {
-        let asked = Asked {
-            table,
-            column,
-            key,
-            after,
-        };
+        let asked = Asked { table, question };
         if let Some(answer) = recall(&self.memory, &asked) {
             return answer;
         }
-        let answer = self.inner.next(table, column, key, after);
+        let answer = self.inner.next(table, question);
         self.memory[self.turn] = Some(Remembered { asked, answer });
         self.turn = (self.turn + 1) % 32;
         answer

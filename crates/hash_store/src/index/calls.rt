@@ -13,11 +13,12 @@ use super::TableIndex;
 use crate::adds::add;
 use crate::place::Place;
 use crate::walks::{Walked, bucket, start_at, walk};
+use basis::Probed;
 use cells::rows::Row;
 use cells::types::Cell;
-use six_tables::{Index, Probed};
+use six_tables::Index;
 use std::alloc::{AllocError, Global};
-use stores::BuildRefusal;
+use stores::{BuildRefusal, Question};
 
 impl TableIndex {
     // An empty table for as many rows as wanted, at most 1,024, in places of its own.
@@ -108,26 +109,27 @@ impl Index for TableIndex {
         Some(self.places[row - 1].stamp)
     }
 
-    fn probe(&self, column: usize, key: Cell, after: usize) -> Probed
-        ensures value { result.row ≡ next_after (matches column key) after (table_of self.now).rows }
-        ensures cost { result.visited ≡ visits (table_of self.now).rows column key after }
+    fn probe(&self, question: Question) -> Probed<Option<usize>>
+        ensures value { result.found ≡ next_after (matches question.column question.key) question.after (table_of self.now).rows }
+        ensures cost { result.visited ≡ visits (table_of self.now).rows question.column question.key question.after }
         ensures law { DrainLaw }
     {
+        let Question { column, key, after } = question;
         if column == 0 || column > 6 {
             return Probed {
-                row: None,
+                found: None,
                 visited: 0,
             };
         }
         let walked = self.seek(column, key, after);
         if walked.row == 0 {
             return Probed {
-                row: None,
+                found: None,
                 visited: walked.visited,
             };
         }
         Probed {
-            row: Some(walked.row),
+            found: Some(walked.row),
             visited: walked.visited,
         }
     }

@@ -5,10 +5,11 @@ ghost use Rattle.six_tables.specs.Stores.{tables_of, table_in};
 ghost use Rattle.std.proofs.Common.{rules};
 
 use super::SixTables;
-use crate::{Index, Probed};
+use crate::Index;
+use basis::Probed;
 use cells::rows::Row;
 use cells::types::Cell;
-use stores::{BuildRefusal, Store};
+use stores::{BuildRefusal, Question, Store};
 
 impl<T: Index> SixTables<T> {
     // The store of these tables, 0 to 5.
@@ -34,14 +35,14 @@ impl<T: Index> SixTables<T> {
     }
 
     // What `next` answers, and how many places it looks at for that.
-    pub fn probe(&self, table: usize, column: usize, key: Cell, after: usize) -> Probed
-        ensures value { result.row ≡ next_row (tables_of T.Index.table self.now) table column key after }
-        ensures cost { T.Index.costs (table_at (tables_of T.Index.table self.now) table).rows column key after result.visited }
+    pub fn probe(&self, table: usize, question: Question) -> Probed<Option<usize>>
+        ensures value { result.found ≡ next_row (tables_of T.Index.table self.now) table question.column question.key question.after }
+        ensures cost { T.Index.costs (table_at (tables_of T.Index.table self.now) table).rows question.column question.key question.after result.visited }
     {
         match self.index(table) {
-            Some(x) => x.probe(column, key, after),
+            Some(x) => x.probe(question),
             None => Probed {
-                row: None,
+                found: None,
                 visited: 0,
             },
         }
@@ -50,9 +51,6 @@ impl<T: Index> SixTables<T> {
 
 impl<T: Index> Store for SixTables<T> {
     ghost tables = { tables_of T.Index.table };
-
-    // What it has to keep stands in the types of its indexes, so every store is sound.
-    ghost sound = { λ _. Unit {0} };
 
     ghost six = { Prim.search rules };
 
@@ -91,7 +89,7 @@ impl<T: Index> Store for SixTables<T> {
         }
     }
 
-    fn next(&mut self, table: usize, column: usize, key: Cell, after: usize) -> Option<usize> {
-        self.probe(table, column, key, after).row
+    fn next(&mut self, table: usize, question: Question) -> Option<usize> {
+        self.probe(table, question).found
     }
 }

@@ -9,12 +9,13 @@ ghost use Rattle.std.proofs.Common.{arith};
 use super::TableIndex;
 use crate::columns::{add_row, probe_column};
 use crate::place::Place;
+use basis::Probed;
 use cells::rows::Row;
 use cells::types::Cell;
-use six_tables::{Index, Probed};
+use six_tables::Index;
 use sorted_index::entry::Entry;
 use std::alloc::{AllocError, Global};
-use stores::BuildRefusal;
+use stores::{BuildRefusal, Question};
 
 impl TableIndex {
     // An empty table for as many rows as wanted, at most 1,024, in places of its own.
@@ -93,10 +94,11 @@ impl Index for TableIndex {
         Some(self.places[row - 1].stamp)
     }
 
-    fn probe(&self, column: usize, key: Cell, after: usize) -> Probed {
+    fn probe(&self, question: Question) -> Probed<Option<usize>> {
+        let Question { column, key, after } = question;
         let found = probe_column(&self.entries, &self.filled, self.room, column, key, after);
         Probed {
-            row: found.row,
+            found: found.row,
             visited: found.visited,
         }
     }

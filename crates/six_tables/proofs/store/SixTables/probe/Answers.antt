@@ -10,10 +10,8 @@ empty_next column key after = next_is_none (matches column key) after [] (λ i d
 pub returns-in-None : goal.returns-in-None
 returns-in-None g c =
     let e = c.in-None.ensures.value in
-    let column = c.args.column in
-    let key = c.args.key in
-    let after = c.args.after in
+    let q = c.args.question in
     record {
-      value = sym (empty_next column key after) ∙ ap (λ (x : Table). next_after (matches column key) after x.rows) e;
-      cost = subst (λ (x : Table). g.T.Index.costs x.rows column key after 0) e (g.met.T.Index.free column key after);
+      value = sym (empty_next q.column q.key q.after) ∙ ap (λ (x : Table). next_after (matches q.column q.key) q.after x.rows) e;
+      cost = subst (λ (x : Table). g.T.Index.costs x.rows q.column q.key q.after 0) e (g.met.T.Index.free q.column q.key q.after);
     }
