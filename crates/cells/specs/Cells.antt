@@ -1,6 +1,6 @@
 -- Kinds and cells: when a cell is lawful, what kind it is of, and how a column of a kind reads one.
-use Rattle.std.specs.Prelude.{ℕ, Bool, true, false, cond, ◌&&◌, ◌||◌, List, [], ◌∷◌, length, take, drop, ℤ, pos, Some, None, Option, ◌==◌, nat_eq, nat_le, nat_lt, unsigned_abs}
-use Rattle.basis.specs.Lists.{all}
+use Rattle.std.specs.Prelude.{ℕ, Bool, true, false, cond, ◌&&◌, ◌||◌, List, [], ◌∷◌, length, take, drop, ℤ, pos, Some, None, Option, ◌==◌, nat_le, nat_lt, unsigned_abs}
+use Rattle.std.specs.List.{list_all}
 use Rattle.cells.specs.declared.types.Kind.{Kind}
 use Rattle.cells.specs.declared.types.Kind.TheVariants as kind
 use Rattle.cells.specs.declared.types.Code.{Code}
@@ -23,7 +23,7 @@ code_text c = take c.len c.bytes
 abbrev pub lawful_code : Code → Bool
 lawful_code c =
     nat_lt 0 c.len && (nat_le c.len 12
-    && (length c.bytes == 12 && (all code_byte (code_text c) && all (nat_eq 0) (drop c.len c.bytes))))
+    && (length c.bytes == 12 && (list_all code_byte (code_text c) && list_all (λ b. b == 0) (drop c.len c.bytes))))
 
 abbrev pub lawful : Cell → Bool
 lawful (cell.Number z) = lawful_number z

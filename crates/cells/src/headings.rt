@@ -5,7 +5,7 @@ use crate::types::Kind;
 
 pub mod calls;
 
-#[derive(Clone, Copy)]
+#[derive(Clone, Copy, Debug, PartialEq, Eq)]
 pub struct Heading {
     kinds: [Kind; 6],
     len: usize,
@@ -15,7 +15,7 @@ pub struct Heading {
 }
 
 // Why a column is not added.
-#[derive(Clone, Copy)]
+#[derive(Clone, Copy, Debug, PartialEq, Eq)]
 pub enum HeadingRefusal {
-    SeventhColumn,
+    SeventhColumn = 9,
 }

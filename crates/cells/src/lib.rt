@@ -1,8 +1,7 @@
 // Cells and what is made of them: kinds, lawfulness, headings and rows.
 #![tactic(auto)]
 
-ghost use Rattle.std.specs.Prelude.{◌≡◌, nat_eq};
-ghost use Rattle.basis.specs.Lists.{all};
+ghost use Rattle.std.specs.Prelude.{◌≡◌};
 ghost use Rattle.cells.specs.Cells.{lawful_number, code_byte, lawful_code, lawful, kind_of, same_kind, fits, blank, read_cell};
 
 pub mod headings;
@@ -17,49 +16,24 @@ const LARGEST: i64 = 999_999_999_999;
 pub fn lawful_number(z: i64) -> bool
     ensures value { result ≡ lawful_number z }
 {
-    -LARGEST <= z && z <= LARGEST
+    (-LARGEST..=LARGEST).contains(&z)
 }
 
 // Is it a byte that a code may hold?
 pub fn code_byte(b: u8) -> bool
     ensures value { result ≡ code_byte b }
 {
-    (b >= b'A' && b <= b'Z') || (b >= b'0' && b <= b'9') || b == b'-'
-}
-
-fn all_code_bytes(s: &[u8]) -> bool
-    ensures value { result ≡ all code_byte s.now }
-{
-    for b in s {
-        if !code_byte(*b) {
-            return false;
-        }
-    }
-    true
-}
-
-fn all_zero(s: &[u8]) -> bool
-    ensures value { result ≡ all (nat_eq 0) s.now }
-{
-    for b in s {
-        if *b != 0 {
-            return false;
-        }
-    }
-    true
+    matches!(b, b'A'..=b'Z' | b'0'..=b'9' | b'-')
 }
 
 fn lawful_code(c: &Code) -> bool
     ensures value { result ≡ lawful_code c.now }
 {
-    if c.len == 0 {
+    if c.len == 0 || c.len > 12 {
         return false;
     }
-    if c.len > 12 {
-        return false;
-    }
-    let n = c.len as usize;
-    all_code_bytes(&c.bytes[0..n]) && all_zero(&c.bytes[n..])
+    let (text, rest) = c.bytes.split_at(usize::from(c.len));
+    text.iter().all(|b| code_byte(*b)) && rest.iter().all(|b| *b == 0)
 }
 
 impl Cell {
@@ -87,7 +61,7 @@ impl Cell {
     pub fn fits(&self, kind: Kind) -> bool
         ensures value { result ≡ fits kind self.now }
     {
-        self.kind().same(kind) && self.is_lawful()
+        self.kind() == kind && self.is_lawful()
     }
 }
 
@@ -110,20 +84,7 @@ pub fn read_cell(kind: Option<Kind>, kept: Option<Cell>) -> Cell
 {
     match (kind, kept) {
         (None, _) => blank(Kind::Number),
-        (Some(k), None) => blank(k),
-        (Some(k), Some(c)) => { if c.fits(k) { c } else { blank(k) } }
-    }
-}
-
-impl Kind {
-    // Are the two kinds the same?
-    pub fn same(self, other: Kind) -> bool
-        ensures value { result ≡ same_kind self other }
-    {
-        match (self, other) {
-            (Kind::Number, Kind::Number) => true,
-            (Kind::Code, Kind::Code) => true,
-            (_, _) => false,
-        }
+        (Some(k), Some(c)) if c.fits(k) => c,
+        (Some(k), _) => blank(k),
     }
 }

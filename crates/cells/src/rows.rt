@@ -6,22 +6,10 @@ ghost use Rattle.cells.specs.Rows.{cells_of};
 use crate::types::Cell;
 
 // At most six cells; places behind `len` mean nothing.
-#[derive(Clone, Copy)]
+#[derive(Clone, Copy, Debug, PartialEq, Eq)]
 pub struct Row {
     pub cells: [Cell; 6],
     pub len: usize,
-}
-
-// Six places that begin with these cells.
-fn copied(cells: &[Cell]) -> [Cell; 6]
-    requires { length cells.now ≤ 6 }
-    ensures value { take (length cells.now) result ≡ cells.now }
-{
-    let mut held = [Cell::Number(0); 6];
-    for i in 0..cells.len() {
-        held[i] = cells[i];
-    }
-    held
 }
 
 impl Row {
@@ -32,8 +20,10 @@ impl Row {
         if cells.len() > 6 {
             return None;
         }
+        let mut held = [Cell::Number(0); 6];
+        held[..cells.len()].copy_from_slice(cells);
         Some(Row {
-            cells: copied(cells),
+            cells: held,
             len: cells.len(),
         })
     }
@@ -41,8 +31,7 @@ impl Row {
     fn held(&self) -> &[Cell]
         ensures value { result.now ≡ cells_of self.now }
     {
-        let n = self.len.min(6);
-        &self.cells[0..n]
+        &self.cells[..self.len.min(6)]
     }
 
     // The cell in a column, counted from 1, if the row has one.

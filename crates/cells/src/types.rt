@@ -1,20 +1,20 @@
 // Kinds and cells: plain data, lawful or not.
 
 // What a column holds.
-#[derive(Clone, Copy)]
+#[derive(Clone, Copy, Debug, PartialEq, Eq, PartialOrd, Ord, Hash)]
 pub enum Kind {
     Number,
     Code,
 }
 
 // A code: its bytes, with 0 behind its end.
-#[derive(Clone, Copy)]
+#[derive(Clone, Copy, Debug, PartialEq, Eq, PartialOrd, Ord, Hash)]
 pub struct Code {
     pub bytes: [u8; 12],
     pub len: u8,
 }
 
-#[derive(Clone, Copy)]
+#[derive(Clone, Copy, Debug, PartialEq, Eq, PartialOrd, Ord, Hash)]
 pub enum Cell {
     Number(i64),
     Code(Code),

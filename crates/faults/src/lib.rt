@@ -70,10 +70,7 @@ impl From<io::Error> for Fault {
 impl fmt::Debug for Fault {
     fn fmt<W: fmt::Write>(&self, f: &mut fmt::Formatter<W>) -> fmt::Result {
         match self {
-            Fault::Heading(refusal) => {
-                let number = refusal.number();
-                write!(f, "refused {number}")
-            }
+            Fault::Heading(refusal) => write!(f, "{refusal}"),
             Fault::Draft(DraftError::Refused(refusal)) => {
                 let number = refusal.number();
                 write!(f, "refused {number}")

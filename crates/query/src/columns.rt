@@ -25,7 +25,7 @@ pub(crate) fn same_kinds(a: Option<Kind>, b: Option<Kind>) -> bool
     ensures value { result ≡ same_kinds a b }
 {
     match (a, b) {
-        (Some(j), Some(k)) => j.same(k),
+        (Some(j), Some(k)) => j == k,
         (_, _) => false,
     }
 }

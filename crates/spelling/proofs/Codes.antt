@@ -2,7 +2,7 @@
 use Rattle.std.proofs.Common.{◌≡◌, ℕ, suc, ◌+◌, ◌-◌, ◌<◌, ◌≤◌, min, true, eqb, List, [], ◌∷◌, ◌++◌, length, get_or, take, drop, set, replicate, sym, refl, ap, ◌∙◌, ⊎_elim, append_assoc, arith, length-drop, take-append-drop}
 use Rattle.std.proofs.lemmas.List.{set_at, take_all, take_more, take_at, length-take-le}
 use Rattle.std.proofs.lemmas.Bool.{cases_lt, and_parts, eqb-true}
-use Rattle.basis.specs.Lists.{all}
+use Rattle.std.specs.List.{list_all}
 use Rattle.cells.specs.Cells.{code_text}
 use Rattle.cells.specs.declared.types.Code.{Code}
 use Rattle.cells.specs.declared.types.Cell.TheVariants as cell
@@ -19,11 +19,11 @@ code_of s = record { bytes = s ++ replicate (12 - length s) 0; len = length s }
 pub code_of_text : (s : List ℕ) → code_text (code_of s) ≡ s
 code_of_text s = take_at s (replicate (12 - length s) 0) (length s) refl
 
-zeros : (xs : List ℕ) → all (eqb 0) xs ≡ true → xs ≡ replicate (length xs) 0
+zeros : (xs : List ℕ) → list_all (λ b. eqb b 0) xs ≡ true → xs ≡ replicate (length xs) 0
 zeros [] h = refl
 zeros (x ∷ xs) h =
-    let p = and_parts (eqb 0 x) (all (eqb 0) xs) h in
-    ap (λ y. y ∷ xs) (sym (eqb-true 0 x p.0)) ∙ ap (λ l. 0 ∷ l) (zeros xs p.1)
+    let p = and_parts (eqb x 0) (list_all (λ b. eqb b 0) xs) h in
+    ap (λ y. y ∷ xs) (eqb-true x 0 p.0) ∙ ap (λ l. 0 ∷ l) (zeros xs p.1)
 
 pub code_is : (s : List ℕ) (c : Code) → SpellsCode s c → c ≡ code_of s
 code_is s c p =

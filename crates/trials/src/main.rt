@@ -48,7 +48,7 @@ fn seventh_column() -> u8 {
     let mut number = 0;
     for _ in 0..6 {
         if let Err(no) = heading.push(Kind::Code) {
-            number = no.number();
+            number = u8::from(no);
         }
     }
     number

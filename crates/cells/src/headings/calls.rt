@@ -1,22 +1,33 @@
 // The calls on a heading.
-ghost use Rattle.std.specs.Prelude.{◌≡◌, ◌<◌, [], ◌∷◌, ◌++◌, length, is_ok, if◌then◌else◌};
+ghost use Rattle.std.specs.Prelude.{◌≡◌, ◌<◌, [], ◌∷◌, ◌++◌, length, codes, decimal, is_ok, if◌then◌else◌, Some};
 ghost use Rattle.basis.specs.Lists.{numbered};
 ghost use Rattle.basis.specs.Questions.{first_no, answered};
 ghost use Rattle.cells.specs.Headings.{columns, push_questions, refusal_number};
 
 use crate::headings::{Heading, HeadingRefusal};
 use crate::types::Kind;
+use std::error::Error;
+use std::fmt;
 
-impl HeadingRefusal {
-    // The refusal's number.
-    pub fn number(self) -> u8
-        ensures value { result ≡ refusal_number self }
-    {
-        match self {
-            HeadingRefusal::SeventhColumn => 9,
-        }
+// A refusal's number.
+impl From<HeadingRefusal> for u8 {
+    ghost from_gives = { λ refusal number. number ≡ refusal_number refusal };
+
+    fn from(refusal: HeadingRefusal) -> u8 {
+        refusal as u8
     }
 }
+
+impl fmt::Display for HeadingRefusal {
+    ghost output = { λ refusal. Some (codes "refused " ++ decimal (refusal_number refusal)) };
+
+    fn fmt<W: fmt::Write>(&self, f: &mut fmt::Formatter<W>) -> fmt::Result {
+        let number = u8::from(*self);
+        write!(f, "refused {number}")
+    }
+}
+
+impl Error for HeadingRefusal {}
 
 impl Heading {
     // A heading with one column.
@@ -53,7 +64,7 @@ impl Heading {
     pub fn columns(&self) -> &[Kind]
         ensures value { result.now ≡ columns self.now }
     {
-        &self.kinds[0..self.len]
+        &self.kinds[..self.len]
     }
 
     // The kind of a column, counted from 1, if there is such a column.
