@@ -1,16 +1,12 @@
 -- How often a stretch can be halved.
 use Rattle.std.proofs.Common.{◌≡◌, ℕ, ◌+◌, ◌*◌, ◌^◌, ◌<◌, ◌≤◌, sym, ap, ◌∙◌, add-mul, mul-le-mul_left, mul-add, add-one, arith}
 use native.Mathlib.Nat.{two-pow-succ}
-use Rattle.sorted_index.specs.Sorting.{Logarithmic}
 
 -- of n, a stretch s is left after so many looks
 pub record Halved (n s looks : ℕ) : Type 0 where
   pub low : n + 1 < 2 ^ looks * (s + 2)
   pub high : 2 ^ looks * s ≤ n
   pub last : 2 ^ looks ≤ 2 * n + 1
-
-pub halved_start : (n : ℕ) → Halved n n 0
-halved_start n = record { low = omega arith; high = omega arith; last = omega arith }
 
 -- the power of two after one look more
 power_more : (looks k : ℕ) → 2 ^ (looks + 1) * k ≡ 2 ^ looks * (k + k)
@@ -30,8 +26,3 @@ halved_more n s left looks some most least h =
       high = omega (arith, power_more looks left, h.high, under);
       last = omega (arith, twice, h.high, one);
     }
-
-pub halved_end : (n looks : ℕ) → Halved n 0 looks → Logarithmic n looks
-halved_end n looks h =
-    let twice : 2 ^ (looks + 1) ≡ 2 ^ looks + 2 ^ looks = ap (λ n. 2 ^ n) (add-one looks) ∙ two-pow-succ looks in
-    (omega (arith, twice, h.low), h.last)

@@ -1,7 +1,6 @@
 -- A sorted index answers the least row above `after` that has the key.
-use Rattle.std.proofs.Common.{◌≡◌, ℕ, ◌+◌, ◌<◌, ◌≤◌, Bool, true, false, cond, ◌&&◌, eqb, leb, List, [], ◌∷◌, length, get_or, drop, Some, None, Decides, Option, sym, refl, ap, ◌∙◌, subst, ⊎_elim, one-add, arith}
+use Rattle.std.proofs.Common.{◌≡◌, ℕ, ◌+◌, ◌<◌, ◌≤◌, Bool, true, false, cond, ◌&&◌, eqb, leb, List, [], ◌∷◌, slice_get, Some, None, Decides, Option, sym, refl, ap, ◌∙◌, subst, ⊎_elim, one-add, arith}
 use Rattle.std.specs.List.{prefix_len}
-use Rattle.std.proofs.lemmas.List.{drop_all, drop_more}
 use Rattle.std.proofs.lemmas.Bool.{and_parts, and_from, and_left, and_right, or_from, or_left, or_right, or_parts, both_ways, cases_Bool, eqb-true, eq-eqb, ne_eqb, leb-false}
 use Rattle.basis.specs.Lists.{all, any}
 use Rattle.keys.specs.Orders.{StrictOrder}
@@ -10,14 +9,14 @@ use Rattle.sorted_index.specs.Entries.{at_or_before, entry_of, has_entry, Neares
 use Rattle.sorted_index.specs.declared.entry.Entry.{Entry}
 use Rattle.sorted_index.proofs.EntryOrder.{ways}
 
--- the row of the first entry, if that has the key
-abbrev first_row : {K : Type 0} → (K → K → Bool) → K → List (Entry K) → Option ℕ
-first_row equals k [] = None
-first_row equals k (e ∷ es) = cond (equals e.key k) (Some e.row) None
+-- the row of an entry, if there is one and it has the key
+abbrev pub first_row : {K : Type 0} → (K → K → Bool) → K → Option (Entry K) → Option ℕ
+first_row equals k None = None
+first_row equals k (Some e) = cond (equals e.key k) (Some e.row) None
 
 -- the same of the first entry behind (k, after)
 abbrev next_entry : {K : Type 0} → (K → K → Bool) → (K → K → Bool) → K → ℕ → List (Entry K) → Option ℕ
-next_entry less equals k after es = first_row equals k (drop (prefix_len (λ e. at_or_before less equals e (entry_of k after)) es) es)
+next_entry less equals k after es = first_row equals k (slice_get es (prefix_len (λ e. at_or_before less equals e (entry_of k after)) es))
 
 -- the same numbers pass, so the same is nearest
 pub nearest_same : (has has' : ℕ → Bool) → ((n : ℕ) → has n ≡ has' n) → (after : ℕ) (o : Option ℕ) → Nearest has after o → Nearest has' after o
@@ -99,23 +98,13 @@ module _ {K : Type 0} (less equals : K → K → Bool) (ordered : StrictOrder le
           (behind e parts.0 n (λ eq. absurd (both_ways (equals e.key k) differ ((decides e.key k).1 eq)))) es later)
 
       go : (b : Bool) → at_or_before less equals e (entry_of k after) ≡ b → Nearest (has_entry equals es k) after (next_entry less equals k after es)
-          → Nearest (has_entry equals (e ∷ es) k) after (first_row equals k (drop (cond b (1 + prefix_len (λ x. at_or_before less equals x (entry_of k after)) es) 0) (e ∷ es)))
+          → Nearest (has_entry equals (e ∷ es) k) after (first_row equals k (slice_get (e ∷ es) (cond b (1 + prefix_len (λ x. at_or_before less equals x (entry_of k after)) es) 0)))
       go true h rest =
-          subst (λ n. Nearest (has_entry equals (e ∷ es) k) after (first_row equals k (drop n (e ∷ es)))) (sym (one-add (prefix_len (λ x. at_or_before less equals x (entry_of k after)) es)))
+          subst (λ n. Nearest (has_entry equals (e ∷ es) k) after (first_row equals k (slice_get (e ∷ es) n))) (sym (one-add (prefix_len (λ x. at_or_before less equals x (entry_of k after)) es)))
           (more (next_entry less equals k after es) h rest)
       go false h rest = here (equals e.key k) refl h
 
-  -- what stands at that place answers the question
-  pub nearest_there : (es : List (Entry K)) (at : ℕ) (e : Entry K) (b : Bool) → at < length es → e ≡ get_or es at e → b ≡ equals e.key k → sorted (at_or_before less equals) es ≡ true → at ≡ prefix_len (λ e. at_or_before less equals e (entry_of k after)) es → Nearest (has_entry equals es k) after (cond b (Some e.row) None)
-  nearest_there es at e b lt is same s first =
-      let found : cond b (Some e.row) None ≡ next_entry less equals k after es =
-      ap (λ t. cond t (Some e.row) None) same
-      ∙ ap (λ x. first_row equals k (x ∷ drop (at + 1) es)) is
-      ∙ sym (ap (first_row equals k) (drop_more es at e lt))
-      ∙ ap (λ n. first_row equals k (drop n es)) first in
-      subst (Nearest (has_entry equals es k) after) (sym found) (next_nearest es s)
-
-  pub nearest_past : (es : List (Entry K)) (at : ℕ) → length es ≤ at → sorted (at_or_before less equals) es ≡ true → at ≡ prefix_len (λ e. at_or_before less equals e (entry_of k after)) es → Nearest (has_entry equals es k) after None
-  nearest_past es at le s first =
-      let found : None ≡ next_entry less equals k after es = sym (ap (first_row equals k) (drop_all at es le)) ∙ ap (λ n. first_row equals k (drop n es)) first in
-      subst (Nearest (has_entry equals es k) after) (sym found) (next_nearest es s)
+  -- the first entry behind the bound answers the question, if it has the key
+  pub nearest_first : (es : List (Entry K)) (at : ℕ) (o : Option ℕ) → o ≡ first_row equals k (slice_get es at) → sorted (at_or_before less equals) es ≡ true → at ≡ prefix_len (λ e. at_or_before less equals e (entry_of k after)) es → Nearest (has_entry equals es k) after o
+  nearest_first es at o found s first =
+      subst (Nearest (has_entry equals es k) after) (sym (found ∙ ap (λ n. first_row equals k (slice_get es n)) first)) (next_nearest es s)

@@ -1,11 +1,12 @@
 -- Binary search in a sorted list: a stretch is left, below which all elements lead up to the bound and above which none does.
-use Rattle.std.proofs.Common.{◌≡◌, ℕ, ◌+◌, ◌-◌, ◌/◌, ◌<◌, ◌≤◌, Bool, true, false, List, length, get_or, sym, ap, ◌∙◌, subst, ⊎_elim, arith}
+use Rattle.std.proofs.Common.{◌≡◌, ℕ, ◌+◌, ◌-◌, ◌/◌, ◌<◌, ◌≤◌, Bool, true, false, List, length, get_or, sym, ap, ◌∙◌, ⊎_elim, arith}
 use Rattle.std.specs.List.{prefix_len}
 use Rattle.std.proofs.lemmas.Bool.{cases_eq, cases_Bool, both_ways}
 use Rattle.std.proofs.lemmas.List.{get_or_default}
-use Rattle.sorted_index.specs.Sorting.{sorted, Logarithmic}
-use Rattle.sorted_index.proofs.Sorting.{leading_is, sorted_at}
-use Rattle.sorted_index.proofs.Halving.{Halved, halved_start, halved_more, halved_end}
+use Rattle.std.proofs.lemmas.List.Sums.{prefix_len_is}
+use Rattle.sorted_index.specs.Sorting.{sorted}
+use Rattle.sorted_index.proofs.Sorting.{sorted_at}
+use Rattle.sorted_index.proofs.Halving.{Halved, halved_more}
 
 module _ {X : Type 0} (before : X → X → Bool) (bound : X) (xs : List X) where
   pub record Cut (low high : ℕ) : Type 0 where
@@ -20,25 +21,10 @@ module _ {X : Type 0} (before : X → X → Bool) (bound : X) (xs : List X) wher
     pub halved : Halved (length xs) (high - low) looks
     pub cut : sorted before xs ≡ true → Cut low high
 
-  pub narrowed_start : Narrowed 0 (length xs) 0
-  narrowed_start =
-      let all : length xs - 0 ≡ length xs = omega arith in
-      record {
-        rises = omega arith;
-        inside = omega arith;
-        few = omega arith;
-        halved = subst (λ s. Halved (length xs) s 0) (sym all) (halved_start (length xs));
-        cut = λ s. record { under = λ j d lt. absurd (let z : ⊥ = omega arith in z); over = λ j d le lt. absurd (let z : ⊥ = omega arith in z) };
-      }
-
-  pub narrowed_end : (low high looks : ℕ) → high ≤ low → Narrowed low high looks → (sorted before xs ≡ true → low ≡ prefix_len (λ x. before x bound) xs) × (low ≤ length xs) × Logarithmic (length xs) looks
-  narrowed_end low high looks le w =
-      let none : high - low ≡ 0 = omega arith in
-      let same : high ≡ low = omega (arith, w.rises) in (
-        λ s. sym (leading_is (λ x. before x bound) xs low (omega (arith, w.inside)) (w.cut s).under (λ d lt. (w.cut s).over low d (omega arith) lt)),
-        omega (arith, w.inside),
-        halved_end (length xs) looks (subst (λ s. Halved (length xs) s looks) none w.halved),
-      )
+  pub narrowed_end : (low high looks : ℕ) → high ≤ low → Narrowed low high looks → sorted before xs ≡ true → low ≡ prefix_len (λ x. before x bound) xs
+  narrowed_end low high looks le w s =
+      let same : high ≡ low = omega (arith, w.rises) in
+      sym (prefix_len_is (λ x. before x bound) xs low bound (omega (arith, w.inside)) (λ j lt. (w.cut s).under j bound lt) (λ lt. (w.cut s).over low bound (omega arith) lt))
 
   module _ (along : (x y z : X) → before x y ≡ true → before y z ≡ true → before x z ≡ true) (low high looks : ℕ) (x : X) (some : low < high) (is : x ≡ get_or xs (low + (high - low) / 2) x) (w : Narrowed low high looks) where
     mid : ℕ

@@ -1,20 +1,11 @@
 -- Sorted lists: the order of two elements, what leads up to a place, and one element more.
-use Rattle.std.proofs.Common.{◌≡◌, ℕ, zero, suc, ◌+◌, ◌-◌, ◌<◌, ◌≤◌, Bool, true, false, cond, ◌||◌, List, [], ◌∷◌, ◌++◌, length, get_or, take, drop, sym, refl, ap, ◌∙◌, one-add, arith}
+use Rattle.std.proofs.Common.{◌≡◌, ℕ, zero, suc, ◌+◌, ◌-◌, ◌<◌, Bool, true, false, cond, ◌||◌, List, [], ◌∷◌, ◌++◌, length, get_or, take, drop, sym, refl, ap, ◌∙◌, one-add, arith}
 use Rattle.std.specs.List.{prefix_len}
 use Rattle.std.proofs.lemmas.List.{take-take}
 use Rattle.std.proofs.lemmas.Bool.{and_parts, and_from}
 use Rattle.basis.specs.Lists.{all, any}
 use Rattle.basis.proofs.Alls.{all_at, all_weaker}
 use Rattle.sorted_index.specs.Sorting.{sorted, inserted, all_but_last}
-
-module _ {X : Type 0} (p : X → Bool) where
-  -- a place up to which all pass, and at which none does
-  pub leading_is : (xs : List X) (n : ℕ) → n ≤ length xs → ((j : ℕ) (d : X) → j < n → p (get_or xs j d) ≡ true) → ((d : X) → n < length xs → p (get_or xs n d) ≡ false) → prefix_len p xs ≡ n
-  leading_is [] n le all_pass not = omega arith
-  leading_is (x ∷ xs) zero le all_pass not = ap (λ b. cond b (1 + prefix_len p xs) 0) (not x (omega arith))
-  leading_is (x ∷ xs) (suc n) le all_pass not =
-      ap (λ b. cond b (1 + prefix_len p xs) 0) (all_pass 0 x (omega arith))
-      ∙ one-add (prefix_len p xs) ∙ ap suc (leading_is xs n (omega arith) (λ j d lt. all_pass (suc j) d (omega arith)) (λ d lt. not d (omega arith)))
 
 module _ {X : Type 0} (before : X → X → Bool) where
   pub sorted_at : (xs : List X) (i j : ℕ) (d : X) → i < j → j < length xs → sorted before xs ≡ true → before (get_or xs i d) (get_or xs j d) ≡ true

@@ -1,5 +1,5 @@
 -- One row more in the indexes.
-use Rattle.std.proofs.Common.{◌≡◌, ℕ, suc, ◌+◌, ◌<◌, Bool, true, false, cond, ◌&&◌, ◌||◌, eqb, List, [], ◌∷◌, ◌++◌, length, get_or, set, is_some, Some, None, Option, sym, refl, ap, ◌∙◌, subst, ⊎_elim, arith}
+use Rattle.std.proofs.Common.{◌≡◌, ℕ, suc, ◌+◌, ◌<◌, Bool, true, false, cond, ◌&&◌, ◌||◌, eqb, List, [], ◌∷◌, ◌++◌, length, get_or, is_some, Some, None, Option, sym, refl, ap, ◌∙◌, subst, ⊎_elim, arith}
 use Rattle.std.proofs.lemmas.List.{length_push}
 use Rattle.std.proofs.lemmas.List.Sums.{sum_by_push}
 use Rattle.std.proofs.lemmas.Bool.{cases_order, and_right, eq-eqb, ne_eqb}
@@ -8,23 +8,15 @@ use Rattle.basis.proofs.Counted.{numbered_past}
 use Rattle.cells.specs.declared.types.Cell.{Cell}
 use Rattle.cells.specs.declared.rows.Row.{Row}
 use Rattle.cells.specs.Rows.{cells_of}
-use Rattle.keys.specs.Keys.{same_cell, less_cell}
-use Rattle.keys.specs.CellOrder.{same_cell_decides, cell_ordered}
-use Rattle.stores.specs.Tables.{Built, cell_of, is_cell}
+use Rattle.keys.specs.Keys.{same_cell}
+use Rattle.stores.specs.Tables.{Built, built_row, cell_of, is_cell}
 use Rattle.stores.proofs.Builds.{numbered-append, numbered_push}
 use Rattle.sorted_index.specs.declared.entry.Entry.{Entry}
 use Rattle.sorted_index.specs.Entries.{entry_of, has_entry}
-use Rattle.sorted_index.specs.Sorting.{sorted}
-use Rattle.sorted_index.proofs.EntryOrder.{entries_along, entries_total}
-use Rattle.sorted_index.proofs.Sorting.{sorted-inserted, any-inserted}
-use Rattle.sorted_store.specs.declared.place.Place.{Place}
-use Rattle.sorted_store.specs.Columns.{row_in, rows_in, cell_order, listed, counted, with_cell, having, Lists, AllCounted, AllSorted, AllListed}
-use Rattle.sorted_store.specs.Rows.{length_rows, rows_more}
-
-pub sorted_with : (o : Option Cell) (n : ℕ) (es : List (Entry Cell)) → sorted cell_order es ≡ true → sorted cell_order (with_cell o n es) ≡ true
-sorted_with None n es s = s
-sorted_with (Some x) n es s =
-    sorted-inserted cell_order (entries_along less_cell same_cell cell_ordered same_cell_decides) (entries_total less_cell same_cell cell_ordered same_cell_decides) (entry_of x n) es s
+use Rattle.sorted_index.proofs.Sorting.{any-inserted}
+use Rattle.sorted_store.specs.declared.columns.Columns.{Columns}
+use Rattle.sorted_store.specs.Columns.{cell_order, counted, with_cell, having, Lists, AllCounted}
+use Rattle.sorted_store.specs.Indexes.{column_in, Listed}
 
 -- what the entries say with one row more
 has_with : (o : Option Cell) (m : ℕ) (es : List (Entry Cell)) (x : Cell) (n : ℕ) → has_entry same_cell (with_cell o m es) x n ≡ ((is_cell o x && eqb m n) || has_entry same_cell es x n)
@@ -76,38 +68,15 @@ module _ (rows : List Built) (b : Built) (column : ℕ) where
       ∙ ap (λ t. (is_cell (numbered b.cells column) x && eqb (length rows + 1) n) || t) (h x n)
       ∙ sym (cell_push x n)
 
--- the indexes of a table whose row n + 1 is put into its place: es are the entries as they are lent, and gs as they come back
-module _ (ps : List Place) (n : ℕ) (row : Row) (number : ℕ) (inside : n < length ps) (xs es fs gs : List (Entry Cell)) (ns ms : List ℕ) (room : ℕ) (lent : es ≡ xs) (back : gs ≡ fs)
-    (after : (c : ℕ) → sorted cell_order (listed es ns room c) ≡ true → listed fs ms room c ≡ with_cell (numbered (cells_of row) (suc c)) (n + 1) (listed es ns room c))
-    (filled : (c : ℕ) → get_or ms c 0 ≡ counted (numbered (cells_of row) (suc c)) (get_or ns c 0)) where
-  abbrev place : Place
-  place = record { row = row; stamp = number }
+-- the columns with the cells of the row that is built next
+module _ (rows : List Built) (row : Row) (stamp number : ℕ) (next : number ≡ length rows + 1) (a b : Columns)
+    (after : (c : ℕ) → column_in b c ≡ with_cell (numbered (cells_of row) (suc c)) number (column_in a c))
+    (filled : (c : ℕ) → get_or b.filled c 0 ≡ counted (numbered (cells_of row) (suc c)) (get_or a.filled c 0)) where
+  pub counted_more : AllCounted rows a.filled → AllCounted (rows ++ built_row row stamp ∷ []) b.filled
+  counted_more h c = filled c ∙ ap (counted (numbered (cells_of row) (suc c))) (h c) ∙ sym (having_push rows (built_row row stamp) (suc c))
 
-  more : rows_in (set ps n place) (n + 1) ≡ rows_in ps n ++ row_in place ∷ []
-  more = rows_more ps n place inside
-
-  counted_more : AllCounted (rows_in ps n) ns → AllCounted (rows_in (set ps n place) (n + 1)) ms
-  counted_more h c =
-      filled c ∙ ap (counted (numbered (cells_of row) (suc c))) (h c) ∙ sym (ap (having (suc c)) more ∙ having_push (rows_in ps n) (row_in place) (suc c))
-
-  grown : AllSorted xs ns room → (c : ℕ) → listed gs ms room c ≡ with_cell (numbered (cells_of row) (suc c)) (n + 1) (listed xs ns room c)
-  grown s c =
-      ap (λ l. listed l ms room c) back ∙ after c (ap (λ l. sorted cell_order (listed l ns room c)) lent ∙ s c)
-      ∙ ap (λ l. with_cell (numbered (cells_of row) (suc c)) (n + 1) (listed l ns room c)) lent
-
-  sorted_more : AllSorted xs ns room → AllSorted gs ms room
-  sorted_more s c =
-      ap (sorted cell_order) (grown s c) ∙ sorted_with (numbered (cells_of row) (suc c)) (n + 1) (listed xs ns room c) (s c)
-
-  listed_more : AllSorted xs ns room → AllListed (rows_in ps n) xs ns room → AllListed (rows_in (set ps n place) (n + 1)) gs ms room
-  listed_more s h c =
-      let long = length_rows ps n (omega arith) in
-      let pushed = lists_push (rows_in ps n) (row_in place) (suc c) (listed xs ns room c) (h c) in
-      subst (λ rows. Lists rows (suc c) (listed gs ms room c)) (sym more)
-      (subst (Lists (rows_in ps n ++ row_in place ∷ []) (suc c))
-      (ap (λ k. with_cell (numbered (cells_of row) (suc c)) (k + 1) (listed xs ns room c)) long ∙ sym (grown s c))
-      pushed)
-
-  pub indexes_more : AllCounted (rows_in ps n) ns → AllSorted xs ns room → AllListed (rows_in ps n) xs ns room
-      → AllCounted (rows_in (set ps n place) (n + 1)) ms × AllSorted gs ms room × AllListed (rows_in (set ps n place) (n + 1)) gs ms room
-  indexes_more counts s lists = (counted_more counts, sorted_more s, listed_more s lists)
+  pub listed_more : Listed rows a → Listed (rows ++ built_row row stamp ∷ []) b
+  listed_more h c =
+      subst (Lists (rows ++ built_row row stamp ∷ []) (suc c))
+      (ap (λ k. with_cell (numbered (cells_of row) (suc c)) k (column_in a c)) (sym next) ∙ sym (after c))
+      (lists_push rows (built_row row stamp) (suc c) (column_in a c) (h c))

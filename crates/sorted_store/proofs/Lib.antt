@@ -1,5 +1,6 @@
 mod Windows
 mod Stretches
+mod Inserting
 mod Adding
 mod Growing
 mod Answering

@@ -10,9 +10,6 @@ stretch_end c d room lt =
     let split = add-mul c 1 room in
     omega arith
 
-pub stretch_inside : (c room n long : ℕ) → c < 6 → 6 * room ≤ long → n < room → c * room + n < long
-stretch_inside c room n long lt fits less = let e = stretch_end c 6 room lt in omega arith
-
 -- the part of a list that is handed on for n elements and one more
 module _ {X : Type 0} (xs : List X) (a n k : ℕ) (is : k ≡ n + 1) (inside : a + n < length xs) where
   pub part_long : length (take k (drop a xs)) ≡ n + 1

@@ -9,12 +9,12 @@ use Rattle.sorted_index.specs.Entries.{at_or_before, entry_of, has_entry}
 use Rattle.sorted_index.specs.Sorting.{sorted, inserted}
 use Rattle.sorted_store.specs.declared.place.Place.{Place}
 
--- the row that a place holds, and the rows in the first n places
+-- the row that a place holds, and the rows in the places
 abbrev pub row_in : Place → Built
 row_in p = built_row p.row p.stamp
 
-abbrev pub rows_in : List Place → ℕ → List Built
-rows_in ps n = map row_in (take n ps)
+abbrev pub rows_in : List Place → List Built
+rows_in ps = map row_in ps
 
 -- by cell, then by row number
 abbrev pub cell_order : Entry Cell → Entry Cell → Bool

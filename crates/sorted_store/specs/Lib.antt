@@ -1,4 +1,3 @@
 pub mod Columns
 pub mod Indexes
 pub mod Indexed
-pub mod Rows

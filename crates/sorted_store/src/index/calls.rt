@@ -7,9 +7,9 @@ ghost use Rattle.sorted_store.specs.Indexed.{index_within};
 ghost use Rattle.std.proofs.Common.{arith};
 
 use super::TableIndex;
-use crate::columns::{add_row, probe_column};
+use crate::columns::Columns;
 use crate::place::Place;
-use basis::Probed;
+use basis::{Probed, numbered};
 use cells::rows::Row;
 use cells::types::Cell;
 use six_tables::Index;
@@ -29,18 +29,18 @@ impl TableIndex {
     }
 
     // An empty table, with the least of the capacity wanted, 1,024 and the row places given: a row takes one place and six entries.
-    pub fn new(wanted: usize, places: Vec<Place>, entries: Vec<Entry<Cell>>) -> TableIndex
+    pub fn new(wanted: usize, mut places: Vec<Place>, entries: Vec<Entry<Cell>>) -> TableIndex
         ensures value { table_of result ≡ record { rows = []; room = min wanted (min 1024 (min (vec_len places) (vec_len entries / 6))) } }
     {
         let given = places.len().min(entries.len() / 6);
         let room = wanted.min(given.min(1024));
-        TableIndex {
-            places,
+        places.clear();
+        let columns = Columns {
             entries,
             filled: [0; 6],
-            count: 0,
             room,
-        }
+        };
+        TableIndex { places, columns }
     }
 }
 
@@ -55,51 +55,27 @@ impl Index for TableIndex {
     ghost free = { λ column key after. (omega arith, omega arith) };
 
     fn build(&mut self, row: Row, stamp: u64) -> Result<(), BuildRefusal> {
-        if self.count >= self.room {
+        if self.places.len() >= self.columns.room {
             return Err(BuildRefusal::Full);
         }
-        add_row(
-            &mut self.entries,
-            &mut self.filled,
-            self.room,
-            row,
-            self.count + 1,
-        );
-        self.places[self.count] = Place { row, stamp };
-        self.count += 1;
+        self.places.push_reserved(Place { row, stamp });
+        self.columns.add(row, self.places.len());
         Ok(())
     }
 
     fn count(&self) -> usize {
-        self.count
+        self.places.len()
     }
 
     fn cell(&self, row: usize, column: usize) -> Option<Cell> {
-        if row == 0 {
-            return None;
-        }
-        if row > self.count {
-            return None;
-        }
-        self.places[row - 1].row.cell(column)
+        numbered(&self.places, row)?.row.cell(column)
     }
 
     fn stamp(&self, row: usize) -> Option<u64> {
-        if row == 0 {
-            return None;
-        }
-        if row > self.count {
-            return None;
-        }
-        Some(self.places[row - 1].stamp)
+        Some(numbered(&self.places, row)?.stamp)
     }
 
     fn probe(&self, question: Question) -> Probed<Option<usize>> {
-        let Question { column, key, after } = question;
-        let found = probe_column(&self.entries, &self.filled, self.room, column, key, after);
-        Probed {
-            found: found.row,
-            visited: found.visited,
-        }
+        self.columns.probe(question)
     }
 }

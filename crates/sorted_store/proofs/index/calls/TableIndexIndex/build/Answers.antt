@@ -1,45 +1,23 @@
-use Rattle.std.proofs.Common.{ℕ, ◌*◌, ◌≤◌, cond, length, vec_items, sym, ap, ◌∙◌, subst, arith, rules}
-use Rattle.std.specs.Vec.{with_items}
-use Rattle.std.proofs.lemmas.List.{with_items_is}
-use Rattle.stores.specs.Tables.{built_row, grown}
-use Rattle.sorted_store.specs.Indexes.{table_of}
-use Rattle.sorted_store.specs.Rows.{rows_more}
-use Rattle.sorted_store.specs.Indexed.{room_placed, room_entered, filled_few, open_below, full_at}
-use Rattle.sorted_store.proofs.Growing.{indexes_more}
+use Rattle.std.proofs.Common.{rules, ◌≡◌, ◌+◌, length, [], ◌∷◌, ◌++◌, vec_items, sym, ap, ◌∙◌, subst, arith}
+use Rattle.std.proofs.lemmas.List.{map-append}
+use Rattle.stores.specs.Tables.{built_row}
+use Rattle.sorted_store.specs.Columns.{row_in, rows_in, AllCounted}
+use Rattle.sorted_store.specs.Indexes.{table_of, Listed}
+use Rattle.sorted_store.specs.Indexed.{rows_counted}
+use Rattle.sorted_store.proofs.Growing.{counted_more, listed_more}
 use Rattle.sorted_store.proofs.index.calls.TableIndexIndex.build.Goals as goal
 
-pub returns-then-self : goal.returns-then-self
-returns-then-self c =
+pub invariant_of-self-2 : goal.invariant_of-self-2
+invariant_of-self-2 c =
     let x = c.args.self.now in
-    let full = full_at x c.if-self.true in
-    record { after = ap (λ b. cond b (grown (table_of x) (built_row c.args.row c.args.stamp)) (table_of x)) (sym full); answer = sym full }
-
-pub add_row-requires : goal.add_row-requires
-add_row-requires c =
-    let x = c.args.self.now in
+    let rows : rows_in c.push_reserved.new.self.items ≡ (table_of x).rows ++ built_row c.args.row c.args.stamp ∷ [] =
+    ap rows_in c.push_reserved.ensures.items ∙ map-append row_in (vec_items x.places) _ in
+    let counted = rows_counted x in
+    let next : c.len-2.result ≡ length (table_of x).rows + 1 = omega arith in
     record {
-      within = (subst (λ es. 6 * x.room ≤ length es) (sym c.deref_mut.ensures.value) (room_entered x), x.within.4);
-      few = λ i. omega (arith, filled_few x i);
+      within = search rules;
+      counted = subst (λ rs. AllCounted rs c.add.new.self.filled) (sym rows)
+          (counted_more (table_of x).rows c.args.row c.args.stamp c.len-2.result next x.columns c.add.new.self c.add.ensures.after c.add.ensures.filled x.counted);
+      listed = subst (λ rs. Listed rs c.add.new.self) (sym rows)
+          (listed_more (table_of x).rows c.args.row c.args.stamp c.len-2.result next x.columns c.add.new.self c.add.ensures.after c.add.ensures.filled x.listed);
     }
-
-pub invariant_of-self : goal.invariant_of-self
-invariant_of-self c =
-    let x = c.args.self.now in
-    let placed = room_placed x in
-    let fs = c.add_row.new.entries in
-    let back = with_items_is x.entries fs (c.add_row.auto.entries ∙ c.deref_mut.ensures.len) in
-    let indexes = λ (stamp : ℕ). indexes_more (vec_items x.places) x.count c.args.row stamp (omega arith) (vec_items x.entries) c.deref_mut.result.now fs (vec_items (with_items x.entries fs)) x.filled
-    c.add_row.new.filled x.room c.deref_mut.ensures.value back c.add_row.ensures.after c.add_row.ensures.filled x.counted x.sorted x.listed in
-    record { within = search rules; counted = (indexes _).0; sorted = (indexes c.args.stamp).1; listed = (indexes _).2 }
-
-pub returns-clause-after : goal.returns-clause-after
-returns-clause-after c =
-    let x = c.args.self.now in
-    let placed = room_placed x in
-    let open_is = open_below x c.if-self.false in
-    let rows = rows_more (vec_items x.places) x.count (record { row = c.args.row; stamp = c.args.stamp }) (omega arith) in
-    let after = ap (λ b. cond b (grown (table_of x) (built_row c.args.row c.args.stamp)) (table_of x)) open_is in
-    search rules
-
-pub returns-clause-answer : goal.returns-clause-answer
-returns-clause-answer c = sym (open_below c.args.self.now c.if-self.false)

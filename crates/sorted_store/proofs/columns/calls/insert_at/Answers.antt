@@ -3,7 +3,7 @@ use Rattle.sorted_index.specs.Sorting.{sorted, inserted}
 use Rattle.sorted_store.specs.Columns.{cell_order}
 use Rattle.sorted_store.proofs.Windows.{exchanged, exchanged_here, exchanged_below, exchanged_above}
 use Rattle.sorted_store.proofs.Stretches.{part_long, part_front}
-use Rattle.sorted_store.proofs.columns.insert_at.Goals as goal
+use Rattle.sorted_store.proofs.columns.calls.insert_at.Goals as goal
 
 pub returns : goal.returns
 returns c =
