@@ -1,15 +1,13 @@
 -- Small words on lists and tests.
-use Rattle.std.specs.Prelude.{ℕ, zero, suc, Bool, true, false, ◌&&◌, ◌||◌, List, [], ◌∷◌, None, Option}
-use Rattle.std.specs.List.{slice_get}
+use Rattle.std.specs.Prelude.{ℕ, zero, suc, Bool, true, ◌&&◌, List, None, Option}
+use Rattle.std.specs.List.{list_all, list_any, slice_get}
 
 -- every element passes the test; some element does
 abbrev pub all : {A : Type 0} → (A → Bool) → List A → Bool
-all p [] = true
-all p (x ∷ xs) = p x && all p xs
+all = list_all
 
 abbrev pub any : {A : Type 0} → (A → Bool) → List A → Bool
-any p [] = false
-any p (x ∷ xs) = p x || any p xs
+any = list_any
 
 -- every number below n passes the test
 abbrev pub upto : ℕ → (ℕ → Bool) → Bool

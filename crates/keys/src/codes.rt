@@ -45,46 +45,19 @@ impl Key for Code {
     }
 
     fn same(&self, other: &Code) -> bool {
-        if self.len != other.len {
-            return false;
-        }
-        let a: &[u8] = &self.bytes;
-        let b: &[u8] = &other.bytes;
-        a == b
+        *self == *other
     }
 
     fn before(&self, other: &Code) -> bool
         ensures value { result ≡ less_code self.now other.now }
         ensures law { ByText self.now other.now result }
     {
-        code_before(self, other)
+        // By hand: of `*self < *other` it stays open that both arrays have twelve places, which reading them tells.
+        (self.bytes, self.len) < (other.bytes, other.len)
     }
 
     fn hash(&self) -> u64 {
-        hash_bytes(&self.bytes)
+        let weighed = |hash: u32, byte: &u8| hash.wrapping_mul(37).wrapping_add(u32::from(*byte));
+        u64::from(self.bytes.iter().fold(0, weighed))
     }
-}
-
-// Does the first code come before the second?
-fn code_before(a: &Code, b: &Code) -> bool
-    ensures value { result ≡ less_code a.now b.now }
-    ensures law { ByText a.now b.now result }
-{
-    for i in 0..12 {
-        if a.bytes[i] != b.bytes[i] {
-            return a.bytes[i] < b.bytes[i];
-        }
-    }
-    a.len < b.len
-}
-
-// The bytes' hash: each place has a weight of its own.
-fn hash_bytes(s: &[u8]) -> u64
-    ensures value { result ≡ fold hash_step 0 s.now }
-{
-    let mut h: u64 = 0;
-    for b in s {
-        h = (h * 37 + *b as u64) % 4_294_967_296;
-    }
-    h
 }

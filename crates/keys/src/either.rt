@@ -41,19 +41,15 @@ impl Key for Cell {
     }
 
     fn same(&self, other: &Cell) -> bool {
-        match (self, other) {
-            (Cell::Number(a), Cell::Number(b)) => a.same(b),
-            (Cell::Code(a), Cell::Code(b)) => a.same(b),
-            (_, _) => false,
-        }
+        *self == *other
     }
 
     fn before(&self, other: &Cell) -> bool {
+        // By hand: of `*self < *other` it stays open that the codes' arrays have twelve places.
         match (self, other) {
-            (Cell::Number(a), Cell::Number(b)) => a.before(b),
+            (Cell::Number(a), Cell::Number(b)) => a < b,
             (Cell::Code(a), Cell::Code(b)) => a.before(b),
-            (Cell::Number(_), Cell::Code(_)) => true,
-            (Cell::Code(_), Cell::Number(_)) => false,
+            (a, b) => a.kind() < b.kind(),
         }
     }
 

@@ -25,10 +25,12 @@ pub trait Key: Copy {
     ghost hashed: { Self → ℕ };
 
     // The key that a cell holds.
+    // By hand: a `TryFrom` would name an error that says no more than None does.
     fn of(c: &Cell) -> Option<Self>
         ensures value { result ≡ within c.now };
 
     // The cell that holds it.
+    // By hand: an index leans on this contract, which a bound `Into<Cell>` would only spell in another way.
     fn to_cell(self) -> Cell
         ensures value { result ≡ cell self };
 
@@ -41,6 +43,7 @@ pub trait Key: Copy {
         ensures value { result ≡ less self.now other.now };
 
     // A number that equal keys share.
+    // By hand: a derived hash has other values, and the printed costs of questions rest on these.
     fn hash(&self) -> u64
         ensures value { result ≡ hashed self.now };
 
