@@ -5,8 +5,8 @@ use Rattle.basis.specs.Lists.{numbered}
 use Rattle.basis.specs.Questions.{first_no}
 use Rattle.cells.specs.declared.types.Kind.{Kind}
 use Rattle.expressions.specs.declared.types.Column.{Column}
-use Rattle.query.specs.Queries.{Query, Condition, Projection, column_kind, column_exists, same_kinds, both_exist, one_kind, two_tables, condition_formed, condition_columns, projection_formed, projection_columns}
-use Rattle.query.specs.Questions.{table_questions, join_questions, filter_questions, show_questions}
+use Rattle.query.specs.Queries.{Query, column_kind, column_exists, same_kinds, both_exist, one_kind, two_tables}
+use Rattle.query.specs.Questions.{table_questions, join_questions}
 use Rattle.query.specs.declared.types.Join.{Join}
 
 -- a first question that has a number, where no number came
@@ -41,27 +41,3 @@ join_granted q j e =
     let c = yes_then _ _ 11 b.1 in
     let d = yes_then _ _ 12 c.1 in
     record { exist = a.0; apart = b.0; alike = c.0; joins = ltb-true (length q.joins) 10 d.0 }
-
-pub record FilterGranted (q : Query) (f : Condition) : Type 0 where
-  pub filters : length q.filters < 8
-  pub formed : condition_formed f ≡ true
-  pub fitting : condition_columns q.headings f ≡ true
-
-pub filter_granted : (q : Query) (f : Condition) → 0 ≡ first_no (filter_questions q f) → FilterGranted q f
-filter_granted q f e =
-    let a = yes_then _ _ 14 e in
-    let b = yes_then _ _ 15 a.1 in
-    let c = yes_then _ _ 16 b.1 in
-    record { filters = ltb-true (length q.filters) 8 a.0; formed = b.0; fitting = c.0 }
-
-pub record ShowGranted (q : Query) (p : Projection) : Type 0 where
-  pub shown : length q.shown < 6
-  pub formed : projection_formed p ≡ true
-  pub fitting : projection_columns q.headings p ≡ true
-
-pub show_granted : (q : Query) (p : Projection) → 0 ≡ first_no (show_questions q p) → ShowGranted q p
-show_granted q p e =
-    let a = yes_then _ _ 17 e in
-    let b = yes_then _ _ 15 a.1 in
-    let c = yes_then _ _ 16 b.1 in
-    record { shown = ltb-true (length q.shown) 6 a.0; formed = b.0; fitting = c.0 }

@@ -1,4 +1,3 @@
-pub mod Fitting
 pub mod Granted
 pub mod Keeps
 pub mod Kept

@@ -1,5 +1,5 @@
 -- The questions of a draft's calls, each with the number of its refusal, and what a granted call makes of the query.
-use Rattle.std.specs.Prelude.{◌≡◌, ℕ, ◌&&◌, List, [], ◌∷◌, ◌++◌, length, is_some, Some, None, Ok, Err, Option, Result, nat_lt}
+use Rattle.std.specs.Prelude.{◌≡◌, ℕ, ◌&&◌, List, [], ◌∷◌, ◌++◌, length, is_some, Ok, Err, Result, codes, decimal, nat_lt}
 use Rattle.basis.specs.Lists.{numbered}
 use Rattle.basis.specs.Questions.{Question}
 use Rattle.cells.specs.declared.types.Kind.{Kind}
@@ -22,10 +22,13 @@ refusal_number IllFormed = 16
 refusal_number WrongColumn = 17
 refusal_number SeventhShown = 18
 
--- the number of a refusal, if there is one, else 0
-abbrev pub met : Option Refusal → ℕ
-met None = 0
-met (Some no') = refusal_number no'
+-- what a refusal prints, by its number; what an error prints
+abbrev pub refused_text : ℕ → List ℕ
+refused_text n = codes "refused " ++ decimal n
+
+abbrev pub error_text : DraftError → List ℕ
+error_text (Refused no') = refused_text (refusal_number no')
+error_text Memory = codes "out of memory"
 
 -- A result answers a number: granted, that it is 0; refused, that it is the refusal's. Want of memory has no number, and comes
 -- only where no question was met with no.

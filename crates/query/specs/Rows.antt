@@ -1,5 +1,7 @@
 -- Which rows are a table's: what a row is asked.
-use Rattle.std.specs.Prelude.{ℕ, Bool, true, ◌&&◌, List, [], ◌∷◌, length, ◌==◌, nat_lt, slice_index_or}
+use Rattle.std.specs.Prelude.{ℕ, Bool, List, [], ◌∷◌, length, ◌==◌, nat_lt, slice_index_or}
+use Rattle.std.specs.List.{zip}
+use Rattle.basis.specs.Lists.{all}
 use Rattle.basis.specs.Questions.{Question}
 use Rattle.cells.specs.Cells.{fits}
 use Rattle.cells.specs.declared.types.Kind.{Kind}
@@ -15,9 +17,7 @@ row_refusal_number UnfitCell = 24
 
 -- every cell is lawful and of its column's kind, as far as both lists go
 abbrev pub all_fit : List Kind → List Cell → Bool
-all_fit [] cells = true
-all_fit (k ∷ kinds) [] = true
-all_fit (k ∷ kinds) (c ∷ cells) = fits k c && all_fit kinds cells
+all_fit kinds cells = all (λ p. fits p.0 p.1) (zip kinds cells)
 
 abbrev pub row_questions : Query → ℕ → List Cell → List Question
 row_questions q t cells =

@@ -1,36 +1,39 @@
-// The numbers of refusals.
-ghost use Rattle.std.specs.Prelude.{◌≡◌};
-ghost use Rattle.query.specs.Questions.{refusal_number};
-ghost use Rattle.query.specs.Rows.{row_refusal_number};
+// The numbers of a draft's refusals, and what is printed of them.
+ghost use Rattle.std.specs.Prelude.{◌≡◌, Some};
+ghost use Rattle.query.specs.Questions.{refusal_number, refused_text, error_text};
 
-use crate::types::{Refusal, RowRefusal};
+use crate::types::{DraftError, Refusal};
+use std::error::Error;
+use std::fmt;
 
-impl Refusal {
-    pub fn number(self) -> u8
-        ensures value { result ≡ refusal_number self }
-    {
+impl From<Refusal> for u8 {
+    ghost from_gives = { λ refusal number. number ≡ refusal_number refusal };
+
+    fn from(refusal: Refusal) -> u8 {
+        refusal as u8
+    }
+}
+
+impl fmt::Display for Refusal {
+    ghost output = { λ refusal. Some (refused_text (refusal_number refusal)) };
+
+    fn fmt<W: fmt::Write>(&self, f: &mut fmt::Formatter<W>) -> fmt::Result {
+        let number = u8::from(*self);
+        write!(f, "refused {number}")
+    }
+}
+
+impl Error for Refusal {}
+
+impl fmt::Display for DraftError {
+    ghost output = { λ error. Some (error_text error) };
+
+    fn fmt<W: fmt::Write>(&self, f: &mut fmt::Formatter<W>) -> fmt::Result {
         match self {
-            Refusal::SeventhTable => 10,
-            Refusal::NoSuchColumn => 11,
-            Refusal::KindsDiffer => 12,
-            Refusal::EleventhJoin => 13,
-            Refusal::SameTable => 14,
-            Refusal::NinthFilter => 15,
-            Refusal::IllFormed => 16,
-            Refusal::WrongColumn => 17,
-            Refusal::SeventhShown => 18,
+            DraftError::Refused(refusal) => write!(f, "{refusal}"),
+            DraftError::Memory => write!(f, "out of memory"),
         }
     }
 }
 
-impl RowRefusal {
-    pub fn number(self) -> u8
-        ensures value { result ≡ row_refusal_number self }
-    {
-        match self {
-            RowRefusal::NoSuchTable => 22,
-            RowRefusal::ColumnCount => 23,
-            RowRefusal::UnfitCell => 24,
-        }
-    }
-}
+impl Error for DraftError {}

@@ -1,20 +1,20 @@
 // What a query is made of, and why a draft refuses.
 ghost use Rattle.std.specs.Prelude.{◌≡◌};
-ghost use Rattle.query.specs.declared.types.DraftError.TheVariants.{Memory};
+ghost use Rattle.query.specs.declared.types.DraftError.TheVariants.{Refused, Memory};
 
 use cells::headings::Heading;
 use expressions::types::{Column, Item};
 use std::alloc::AllocError;
 
 // Two columns of two tables are equal.
-#[derive(Clone, Copy)]
+#[derive(Clone, Copy, Debug, PartialEq, Eq)]
 pub struct Join {
     pub left: Column,
     pub right: Column,
 }
 
 // How a filter compares its two expressions.
-#[derive(Clone, Copy)]
+#[derive(Clone, Copy, Debug, PartialEq, Eq)]
 pub enum Test {
     Less,
     AtMost,
@@ -22,7 +22,7 @@ pub enum Test {
 }
 
 // A comparison that a combination of rows must pass.
-#[derive(Drop)]
+#[derive(Debug, Drop)]
 pub struct Filter {
     pub test: Test,
     pub left: Vec<Item>,
@@ -30,35 +30,43 @@ pub struct Filter {
 }
 
 // A value on a line: an expression's, or a code column's.
-#[derive(Drop)]
+#[derive(Debug, Drop)]
 pub enum Shown {
     Value(Vec<Item>),
     Code(Column),
 }
 
 // The question of a draft that was met with no.
-#[derive(Clone, Copy)]
+#[derive(Clone, Copy, Debug, PartialEq, Eq)]
 pub enum Refusal {
-    SeventhTable,
-    NoSuchColumn,
-    KindsDiffer,
-    EleventhJoin,
-    SameTable,
-    NinthFilter,
-    IllFormed,
-    WrongColumn,
-    SeventhShown,
+    SeventhTable = 10,
+    NoSuchColumn = 11,
+    KindsDiffer = 12,
+    EleventhJoin = 13,
+    SameTable = 14,
+    NinthFilter = 15,
+    IllFormed = 16,
+    WrongColumn = 17,
+    SeventhShown = 18,
 }
 
 // A refusal, or want of memory.
-#[derive(Clone, Copy)]
+#[derive(Clone, Copy, Debug, PartialEq, Eq)]
 pub enum DraftError {
     Refused(Refusal),
     Memory,
 }
 
+impl From<Refusal> for DraftError {
+    ghost from_gives = { λ refusal error. error ≡ Refused refusal };
+
+    fn from(refusal: Refusal) -> DraftError {
+        DraftError::Refused(refusal)
+    }
+}
+
 impl From<AllocError> for DraftError {
-    ghost from_gives = { λ _ r. r ≡ Memory };
+    ghost from_gives = { λ _ error. error ≡ Memory };
 
     fn from(_e: AllocError) -> DraftError {
         DraftError::Memory
@@ -66,15 +74,15 @@ impl From<AllocError> for DraftError {
 }
 
 // Why a row is not one of a table's.
-#[derive(Clone, Copy)]
+#[derive(Clone, Copy, Debug, PartialEq, Eq)]
 pub enum RowRefusal {
-    NoSuchTable,
-    ColumnCount,
-    UnfitCell,
+    NoSuchTable = 22,
+    ColumnCount = 23,
+    UnfitCell = 24,
 }
 
 // What a draft holds, lent.
-#[derive(Clone, Copy)]
+#[derive(Clone, Copy, Debug)]
 pub struct Parts<'a> {
     pub headings: &'a [Heading],
     pub joins: &'a [Join],

@@ -4,9 +4,9 @@ ghost use Rattle.basis.specs.Questions.{first_no, answered};
 ghost use Rattle.cells.specs.Headings.{columns};
 ghost use Rattle.query.specs.Drafts.{query_of};
 ghost use Rattle.query.specs.Queries.{Query};
-ghost use Rattle.query.specs.Questions.{refusal_number, met, table_questions, with_table, join_questions, with_join};
+ghost use Rattle.query.specs.Questions.{refusal_number, table_questions, with_table, join_questions, with_join};
 
-use crate::columns::{both_exist, column_kind, one_kind, same_kinds};
+use crate::columns::column_kind;
 use crate::drafts::Draft;
 use crate::types::{Join, Refusal};
 use cells::headings::Heading;
@@ -32,25 +32,23 @@ impl Draft {
         })
     }
 
-    // The first question of a new table that is met with no.
-    fn table_refusal(&self, heading: &Heading, to: Column, own: usize) -> Option<Refusal>
-        ensures value { met result ≡ first_no (table_questions (query_of self.now) (columns heading.now) to own) }
+    // Asks the questions of a new table.
+    fn ask_table(&self, heading: &Heading, to: Column, own: usize) -> Result<(), Refusal>
+        ensures answer { answered refusal_number result ≡ first_no (table_questions (query_of self.now) (columns heading.now) to own) }
     {
         if self.tables() >= 6 {
-            return Some(Refusal::SeventhTable);
+            return Err(Refusal::SeventhTable);
         }
-        let there = column_kind(&self.headings, to);
-        let here = heading.kind(own);
-        if !(there.is_some() && here.is_some()) {
-            return Some(Refusal::NoSuchColumn);
-        }
-        if !same_kinds(there, here) {
-            return Some(Refusal::KindsDiffer);
+        let (Some(there), Some(here)) = (column_kind(&self.headings, to), heading.kind(own)) else {
+            return Err(Refusal::NoSuchColumn);
+        };
+        if there != here {
+            return Err(Refusal::KindsDiffer);
         }
         if self.joins.len() >= 10 {
-            return Some(Refusal::EleventhJoin);
+            return Err(Refusal::EleventhJoin);
         }
-        None
+        Ok(())
     }
 
     // One more table, whose column `own` equals the column `to` of an earlier one.
@@ -58,30 +56,30 @@ impl Draft {
         ensures answer { answered refusal_number result ≡ first_no (table_questions (query_of self.old) (columns heading) to own) }
         ensures after { query_of self.new ≡ (if is_ok result then with_table (query_of self.old) (columns heading) to own else query_of self.old) }
     {
-        if let Some(no) = self.table_refusal(&heading, to, own) {
-            return Err(no);
-        }
+        self.ask_table(&heading, to, own)?;
         self.push_table(heading, to, own);
         Ok(())
     }
 
-    // The first question of a further join that is met with no.
-    fn join_refusal(&self, join: Join) -> Option<Refusal>
-        ensures value { met result ≡ first_no (join_questions (query_of self.now) join) }
+    // Asks the questions of a further join.
+    fn ask_join(&self, join: Join) -> Result<(), Refusal>
+        ensures answer { answered refusal_number result ≡ first_no (join_questions (query_of self.now) join) }
     {
-        if !both_exist(&self.headings, join) {
-            return Some(Refusal::NoSuchColumn);
+        let left = column_kind(&self.headings, join.left);
+        let right = column_kind(&self.headings, join.right);
+        if left.is_none() || right.is_none() {
+            return Err(Refusal::NoSuchColumn);
         }
         if join.left.table == join.right.table {
-            return Some(Refusal::SameTable);
+            return Err(Refusal::SameTable);
         }
-        if !one_kind(&self.headings, join) {
-            return Some(Refusal::KindsDiffer);
+        if left != right {
+            return Err(Refusal::KindsDiffer);
         }
         if self.joins.len() >= 10 {
-            return Some(Refusal::EleventhJoin);
+            return Err(Refusal::EleventhJoin);
         }
-        None
+        Ok(())
     }
 
     // One more join.
@@ -89,9 +87,7 @@ impl Draft {
         ensures answer { answered refusal_number result ≡ first_no (join_questions (query_of self.old) join) }
         ensures after { query_of self.new ≡ (if is_ok result then with_join (query_of self.old) join else query_of self.old) }
     {
-        if let Some(no) = self.join_refusal(join) {
-            return Err(no);
-        }
+        self.ask_join(join)?;
         self.push_join(join);
         Ok(())
     }

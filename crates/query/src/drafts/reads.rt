@@ -1,5 +1,5 @@
 // What a draft tells of its query.
-ghost use Rattle.std.specs.Prelude.{◌≡◌, ◌<◌, [], map, length, slice_index_or};
+ghost use Rattle.std.specs.Prelude.{◌≡◌, map, length};
 ghost use Rattle.basis.specs.Questions.{first_no, answered};
 ghost use Rattle.cells.specs.Headings.{columns};
 ghost use Rattle.query.specs.Drafts.{query_of};
@@ -24,6 +24,7 @@ impl Draft {
 
     // The tables' headings, in order.
     pub fn headings(&self) -> &[Heading]
+        ensures count { length result.now ≡ length (query_of self.now).headings }
         ensures value { map columns result.now ≡ (query_of self.now).headings }
     {
         self.headings.as_slice()
@@ -67,37 +68,15 @@ impl Draft {
         }
     }
 
-    pub(super) fn filter_count(&self) -> usize
-        ensures value { result ≡ length (query_of self.now).filters }
-    {
-        self.filters.len()
-    }
-
-    pub(super) fn shown_count(&self) -> usize
-        ensures value { result ≡ length (query_of self.now).shown }
-    {
-        self.shown.len()
-    }
-
-    fn heading(&self, table: usize) -> Heading
-        requires { table < length (query_of self.now).headings }
-        ensures value { columns result ≡ slice_index_or (query_of self.now).headings table [] }
-    {
-        self.headings[table]
-    }
-
     // May these cells be a row of this table?
     pub fn accepts(&self, table: usize, cells: &[Cell]) -> Result<(), RowRefusal>
         ensures answer { answered row_refusal_number result ≡ first_no (row_questions (query_of self.now) table cells.now) }
     {
-        if table >= self.tables() {
-            return Err(RowRefusal::NoSuchTable);
-        }
-        let heading = self.heading(table);
+        let heading = self.headings.get(table).ok_or(RowRefusal::NoSuchTable)?;
         if cells.len() != heading.columns().len() {
             return Err(RowRefusal::ColumnCount);
         }
-        if !all_fit(&heading, cells) {
+        if !all_fit(heading, cells) {
             return Err(RowRefusal::UnfitCell);
         }
         Ok(())

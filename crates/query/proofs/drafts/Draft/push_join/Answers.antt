@@ -1,4 +1,4 @@
-use Rattle.std.proofs.Common.{◌&&◌, map, vec_items, vec_len, ap, ◌∙◌, arith}
+use Rattle.std.proofs.Common.{◌&&◌, map, vec_items, vec_len, ap, ◌∙◌}
 use Rattle.std.proofs.lemmas.Bool.{and_from}
 use Rattle.basis.specs.Lists.{all}
 use Rattle.cells.specs.Headings.{columns}
@@ -8,18 +8,16 @@ use Rattle.query.proofs.Granted.{join_granted}
 use Rattle.query.proofs.Kept.{join_joined, all_linked_more}
 use Rattle.query.proofs.drafts.Draft.push_join.Goals as goal
 
-pub invariant_of-self : goal.invariant_of-self
-invariant_of-self c =
+pub invariant_of-self-clause-joined : goal.invariant_of-self-clause-joined
+invariant_of-self-clause-joined c =
     let d = c.args.self.now in
     let j = c.args.join in
     let hs = map columns (vec_items d.headings) in
     let p = join_granted (query_of d) j c.requires in
     let fits = and_from (both_exist hs j) (two_tables j && one_kind hs j) p.exist (and_from (two_tables j) (one_kind hs j) p.apart p.alike) in
-    let items = c.push_reserved.ensures.items in record {
-      limits = omega (arith, d.limits, d.joins.ok.0, p.joins, c.push_reserved.ensures.len);
-      room = omega (arith, d.room, c.push_reserved.ensures.capacity);
-      joined = ap (all (join_fits hs)) items ∙ join_joined hs (vec_items d.joins) d.joined j fits;
-      linked = ap (all_linked (vec_len d.headings)) items ∙ all_linked_more (vec_items d.joins) j (vec_len d.headings) d.linked;
-      selected = d.selected;
-      projected = d.projected;
-    }
+    ap (all (join_fits hs)) c.push_reserved.ensures.items ∙ join_joined hs (vec_items d.joins) d.joined j fits
+
+pub invariant_of-self-clause-linked : goal.invariant_of-self-clause-linked
+invariant_of-self-clause-linked c =
+    let d = c.args.self.now in
+    ap (all_linked (vec_len d.headings)) c.push_reserved.ensures.items ∙ all_linked_more (vec_items d.joins) c.args.join (vec_len d.headings) d.linked

@@ -1,4 +1,4 @@
-use Rattle.std.proofs.Common.{◌≡◌, ◌+◌, true, [], ◌∷◌, ◌++◌, map, length, is_some, vec_items, vec_len, sym, ap, ◌∙◌, arith}
+use Rattle.std.proofs.Common.{◌≡◌, ◌+◌, true, [], ◌∷◌, ◌++◌, map, length, is_some, vec_items, vec_len, sym, ap, ◌∙◌, arith, rules}
 use Rattle.std.proofs.lemmas.List.{map_push, length-map}
 use Rattle.std.proofs.lemmas.Bool.{and_parts}
 use Rattle.basis.specs.Lists.{all, numbered}
@@ -10,12 +10,6 @@ use Rattle.query.proofs.Granted.{TableGranted, table_granted}
 use Rattle.query.proofs.Kept.{new_fits, new_linked, table_joined}
 use Rattle.query.proofs.Widened.{condition_more, projection_more}
 use Rattle.query.proofs.drafts.Draft.push_table.Goals as goal
-
-pub push_reserved-requires-2 : goal.push_reserved-requires-2
-push_reserved-requires-2 c =
-    let d = c.args.self.now in
-    let p = table_granted (query_of d) (columns c.args.heading) c.args.to c.args.own c.requires in
-    omega (arith, d.room, d.headings.ok.0, p.tables, length-map (vec_items d.headings) columns)
 
 pub invariant_of-self : goal.invariant_of-self
 invariant_of-self c =
@@ -35,25 +29,10 @@ invariant_of-self c =
     c.push_reserved.ensures.items ∙ ap (λ t. js ++ record { left = to; right = record { table = t; column = own } } ∷ []) n in
     let long : vec_len c.push_reserved-2.new.self ≡ length hs + 1 = omega (arith, c.push_reserved-2.ensures.len, d.headings.ok.0, l) in
     let same : vec_len d.headings ≡ length hs = omega (arith, d.headings.ok.0, l) in record {
-      limits = omega (arith, d.limits, d.headings.ok.0, d.joins.ok.0, p.tables, p.joins, l, c.push_reserved.ensures.len, c.push_reserved-2.ensures.len);
-      room = omega (arith, d.room, c.push_reserved.ensures.capacity, c.push_reserved-2.ensures.capacity);
+      limits = search rules;
+      room = search rules;
       joined = (λ i. all (join_fits (wide i)) (joins i)) ∙ table_joined hs js d.joined ks _ (new_fits hs ks to own p.exist p.alike);
       linked = (λ i. all_linked (long i) (joins i)) ∙ new_linked hs ks to own js exists (ap (λ m. all_linked m js) (sym same) ∙ d.linked);
       selected = ap (λ x. all (condition_fits x) (map condition (vec_items d.filters))) wide ∙ all_weaker (condition_fits hs) (condition_fits (hs ++ ks ∷ [])) (condition_more hs ks) (map condition (vec_items d.filters)) d.selected;
       projected = ap (λ x. all (projection_fits x) (map projection (vec_items d.shown))) wide ∙ all_weaker (projection_fits hs) (projection_fits (hs ++ ks ∷ [])) (projection_more hs ks) (map projection (vec_items d.shown)) d.projected;
-    }
-
-pub returns : goal.returns
-returns c =
-    let d = c.args.self.now in
-    let hs = map columns (vec_items d.headings) in
-    let js = vec_items d.joins in
-    let n : c.tables.result ≡ length hs = c.tables.ensures.value in
-    record {
-      after = λ i. record {
-        headings = (ap (map columns) c.push_reserved-2.ensures.items ∙ map_push columns (vec_items d.headings) c.args.heading) i;
-        joins = (c.push_reserved.ensures.items ∙ ap (λ t. js ++ record { left = c.args.to; right = record { table = t; column = c.args.own } } ∷ []) n) i;
-        filters = map condition (vec_items d.filters);
-        shown = map projection (vec_items d.shown);
-      };
     }
