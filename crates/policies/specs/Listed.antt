@@ -1,7 +1,7 @@
 -- The first of a list that is a member, else the lowest: how it is found, and that it is what its name says.
-use Rattle.std.specs.Prelude.{◌≡◌, ℕ, zero, suc, ◌+◌, ◌-◌, ◌<◌, ◌≤◌, Bool, true, false, cond, List, [], ◌∷◌, ◌++◌, length, take, set, replicate, slice_index, slice_set, refl}
-use Rattle.std.proofs.Common.{sym, ap, ◌∙◌, ⊎_elim, arith}
-use Rattle.std.proofs.lemmas.List.{get_or_past, set_at, length-take-le, append_assoc, take_more}
+use Rattle.std.specs.Prelude.{◌≡◌, ℕ, zero, suc, ◌<◌, ◌≤◌, Bool, true, false, cond, List, [], ◌∷◌, ◌++◌, length, replicate, slice_index, refl}
+use Rattle.std.proofs.Common.{ap, ◌∙◌, ⊎_elim, arith}
+use Rattle.std.proofs.lemmas.List.{get_or_past}
 use Rattle.std.proofs.lemmas.Bool.{cases_Bool, cond-true, cond-false}
 use Rattle.policies.specs.Modules.{has, least, Empty}
 use Rattle.policies.specs.Order.{first_in, First}
@@ -44,13 +44,3 @@ first_padded [] zero members short = refl
 first_padded [] (suc n) members short =
     cond-false (has members 14) 14 (first_in (replicate n 14) members) (get_or_past members 14 false short) ∙ first_padded [] n members short
 first_padded (x ∷ xs) n members short = ap (cond (has members x) x) (first_padded xs n members short)
-
--- one more of a list laid into what was padded
-pub padded_more : (list : List ℕ) (i : ℕ) → i < length list → length list ≤ 14 → slice_set (take i list ++ replicate (14 - i) 14) i (slice_index list i) ≡ take (i + 1) list ++ replicate (14 - (i + 1)) 14
-padded_more list i lt short =
-    let rest = 14 - (i + 1) in
-    let one_less : 14 - i ≡ suc rest = omega arith in
-    ap (λ n. set (take i list ++ replicate n 14) i (slice_index list i)) one_less
-    ∙ set_at (take i list) 14 (replicate rest 14) (slice_index list i) i (length-take-le i list (omega arith))
-    ∙ sym (append_assoc (take i list) (slice_index list i ∷ []) (replicate rest 14))
-    ∙ ap (λ xs. xs ++ replicate rest 14) (sym (take_more list i 0 lt))

@@ -1,5 +1,5 @@
 // The fixed policy: the first member in its list, else the lowest member.
-ghost use Rattle.std.specs.Prelude.{◌≡◌, ◌≤◌, [], length, IfSome, nat_lt, refl};
+ghost use Rattle.std.specs.Prelude.{◌≡◌, ◌≤◌, [], length, IfSome, nat_lt, find, refl};
 ghost use Rattle.basis.specs.Lists.{all};
 ghost use Rattle.policies.specs.Modules.{has, least};
 ghost use Rattle.policies.specs.Order.{first_in, First, fixed_choice, padded, fixed_by, fixed_of, ChoosesBy};
@@ -7,7 +7,7 @@ ghost use Rattle.policies.specs.Listed.{first_member, first_empty};
 
 use crate::{News, Policy};
 
-#[derive(Clone, Copy)]
+#[derive(Clone, Copy, Debug, PartialEq, Eq)]
 pub struct Fixed {
     // the list's modules, then 14, which is no module, up to the end
     order: [u8; 14],
@@ -26,10 +26,7 @@ impl Fixed {
         ensures value { result ≡ fixed_of list.now }
         ensures law { IfSome result (ChoosesBy list.now) }
     {
-        if list.len() > 14 {
-            return None;
-        }
-        if !all_modules(list) {
+        if list.len() > 14 || !all_modules(list) {
             return None;
         }
         Some(Fixed {
@@ -38,15 +35,18 @@ impl Fixed {
     }
 }
 
+impl Default for Fixed {
+    ghost is_default = { λ x. x ≡ fixed_by [] };
+
+    fn default() -> Fixed {
+        Fixed::new()
+    }
+}
+
 fn all_modules(list: &[u8]) -> bool
     ensures { result ≡ all (λ m. nat_lt m 14) list.now }
 {
-    for m in list {
-        if *m > 13 {
-            return false;
-        }
-    }
-    true
+    list.iter().all(|m| *m < 14)
 }
 
 fn padded_to_14(list: &[u8]) -> [u8; 14]
@@ -55,34 +55,33 @@ fn padded_to_14(list: &[u8]) -> [u8; 14]
     ensures law { ChoosesBy list.now (record { order = result }) }
 {
     let mut order = [14; 14];
-    for i in 0..list.len() {
-        order[i] = list[i];
-    }
+    order[..list.len()].copy_from_slice(list);
     order
 }
 
 fn lowest_of(members: &[bool; 14]) -> u8
     ensures { result ≡ least (has members.now) }
 {
-    for i in 0..14 {
-        if members[i] {
-            return i as u8;
-        }
-    }
-    14
+    members.iter().position(|is| *is).unwrap_or(14) as u8
+}
+
+fn has(members: &[bool; 14], m: u8) -> bool
+    ensures { result ≡ has members.now m }
+{
+    members.get(usize::from(m)).copied().unwrap_or(false)
+}
+
+fn listed(order: &[u8; 14], members: &[bool; 14]) -> Option<u8>
+    ensures { result ≡ find (has members.now) order.now }
+{
+    order.iter().copied().find(|m| has(members, *m))
 }
 
 fn first_of(order: &[u8; 14], members: &[bool; 14]) -> u8
     ensures value { result ≡ first_in order.now members.now }
     ensures law { First order.now members.now result }
 {
-    for i in 0..14 {
-        let m = order[i];
-        if m < 14 && members[m as usize] {
-            return m;
-        }
-    }
-    lowest_of(members)
+    listed(order, members).unwrap_or_else(|| lowest_of(members))
 }
 
 impl Policy for Fixed {

@@ -9,7 +9,7 @@ pub mod fixed;
 pub mod lottery;
 
 // What a policy hears of a module: that a tuple was routed to it, or that it returned one.
-#[derive(Clone, Copy)]
+#[derive(Clone, Copy, Debug, PartialEq, Eq)]
 pub enum News {
     Routed,
     Returned,
@@ -17,6 +17,7 @@ pub enum News {
 
 // Routes tuples: chooses a module from a set, and hears what becomes of its choices. Modules 0 to 5 are the tables, 6 to 13 the
 // filters, and 14 stands for no module. A policy's meaning is its state: state and argument alone fix each choice and each next state.
+// By hand: an answer is a number, 14 too, since the interface of policies fixes the numbers of modules.
 pub trait Policy {
     // the module that it answers for a set
     ghost choice: { Self → List Bool → ℕ };

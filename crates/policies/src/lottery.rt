@@ -7,7 +7,7 @@ ghost use Rattle.policies.specs.Weights.{lottery_member, lottery_none, lottery_a
 
 use crate::{News, Policy};
 
-#[derive(Clone, Copy)]
+#[derive(Clone, Copy, Debug, PartialEq, Eq)]
 pub struct Lottery {
     // the word that a choice steps and draws by
     word: u32,
@@ -24,6 +24,39 @@ impl Lottery {
             tickets: [0; 14],
         }
     }
+
+    // What a module adds to the summed weights.
+    fn share(&self, members: &[bool; 14], m: usize) -> u32
+        requires { m < 14 }
+        ensures value { result ≡ share self.now.tickets members.now m }
+        ensures most { result ≤ 65536 }
+    {
+        if members[m] {
+            u32::from(self.tickets[m]) + 1
+        } else {
+            0
+        }
+    }
+
+    fn weights(&self, members: &[bool; 14]) -> u32
+        ensures { result ≡ weights self.now.tickets members.now }
+    {
+        (0..14).map(|m| self.share(members, m)).sum()
+    }
+
+    // By hand: a chain would carry the running sum in a closure that changes it, and be no plainer.
+    fn drawn(&self, members: &[bool; 14], draw: u32) -> u8
+        ensures { result ≡ drawn self.now.tickets members.now draw }
+    {
+        let mut sum = 0;
+        for m in 0..14 {
+            sum += self.share(members, m);
+            if draw < sum {
+                return m as u8;
+            }
+        }
+        14
+    }
 }
 
 fn xorshift_of(word: u32) -> u32
@@ -32,37 +65,6 @@ fn xorshift_of(word: u32) -> u32
     let a = word ^ (word << 13);
     let b = a ^ (a >> 17);
     b ^ (b << 5)
-}
-
-fn share_of(tickets: &[u16; 14], members: &[bool; 14], m: usize) -> u32
-    requires { m < 14 }
-    ensures value { result ≡ share tickets.now members.now m }
-    ensures most { result ≤ 65536 }
-{
-    if members[m] { tickets[m] as u32 + 1 } else { 0 }
-}
-
-fn weights_of(tickets: &[u16; 14], members: &[bool; 14]) -> u32
-    ensures { result ≡ weights tickets.now members.now }
-{
-    let mut sum: u32 = 0;
-    for m in 0..14 {
-        sum += share_of(tickets, members, m);
-    }
-    sum
-}
-
-fn drawn_from(tickets: &[u16; 14], members: &[bool; 14], draw: u32) -> u8
-    ensures { result ≡ drawn tickets.now members.now draw }
-{
-    let mut sum: u32 = 0;
-    for m in 0..14 {
-        sum += share_of(tickets, members, m);
-        if draw < sum {
-            return m as u8;
-        }
-    }
-    14
 }
 
 impl Policy for Lottery {
@@ -83,17 +85,17 @@ impl Policy for Lottery {
         ensures after { self.new ≡ lottery_chosen self.old members.now }
         ensures law { (m : ℕ) → has members.now m ≡ true → Draws self.old self.new members.now result }
     {
-        let sum = weights_of(&self.tickets, members);
+        let sum = self.weights(members);
         if sum == 0 {
             return 14;
         }
         let word = xorshift_of(self.word);
         self.word = word;
-        drawn_from(&self.tickets, members, word % sum)
+        self.drawn(members, word % sum)
     }
 
     fn told(&mut self, news: News, which: u8) {
-        let at = which as usize;
+        let at = usize::from(which);
         if at < 14 {
             let n = self.tickets[at];
             self.tickets[at] = match news {

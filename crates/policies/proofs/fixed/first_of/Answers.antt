@@ -1,35 +1,24 @@
--- The first listed member is found, and the law holds of it.
-use Rattle.std.proofs.Common.{◌≡◌, false, get_or, sym, ◌∙◌, subst, arith, below_more}
-use Rattle.std.proofs.lemmas.List.{get_or_past}
-use Rattle.policies.specs.Modules.{has}
-use Rattle.policies.specs.Order.{First}
-use Rattle.policies.specs.Listed.{first_listed, first_lowest, first_law}
+-- What the search finds is the first of the list that is a member, and the law holds of it.
+use Rattle.std.proofs.Common.{◌≡◌, ℕ, Bool, true, false, cond, List, [], ◌∷◌, Some, Option, sym, refl, subst, ◌∙◌, rules}
+use Rattle.std.specs.List.{find}
+use Rattle.std.specs.Option.{unwrap_or}
+use Rattle.policies.specs.Modules.{has, least}
+use Rattle.policies.specs.Order.{First, first_in}
+use Rattle.policies.specs.Listed.{first_law}
 use Rattle.policies.proofs.fixed.first_of.Goals as goal
-use Rattle.policies.proofs.fixed.first_of.Goals.{else-m-lt14-via-then-m-lt14+else-members-m, else-m-lt14-via-else-m-lt14}
 
-pub returns-then-members-m-clause-value : goal.returns-then-members-m-clause-value
-returns-then-members-m-clause-value c =
-    let is = first_listed c.args.order.now c.args.members.now c.loop-i.i (omega (arith, c.told-order, c.loop-i-test.true)) in
-    grind (arith, is, c.loop-i.invariant)
+found_first : (b : Bool) (m : ℕ) (o : Option ℕ) (d r : ℕ) → unwrap_or o d ≡ r → unwrap_or (cond b (Some m) o) d ≡ cond b m r
+found_first true m o d r e = refl
+found_first false m o d r e = e
 
-pub loop-i-preserved : goal.loop-i-preserved
-loop-i-preserved c =
+first_found : (list : List ℕ) (members : List Bool) → unwrap_or (find (has members) list) (least (has members)) ≡ first_in list members
+first_found [] members = refl
+first_found (m ∷ ms) members = found_first (has members m) m (find (has members) ms) (least (has members)) (first_in ms members) (first_found ms members)
+
+pub returns : goal.returns
+returns c =
     let list = c.args.order.now in
     let members = c.args.members.now in
-    let i = c.loop-i.i in
-    let out : has members (get_or list i 0) ≡ false = elim c.else-m-lt14.branch [
-      | else-m-lt14-via-then-m-lt14+else-members-m w ↦ w.if-members-m.false
-      | else-m-lt14-via-else-m-lt14 w ↦ get_or_past members (get_or list i 0) false (omega (arith, w.if-m-lt14.false, c.told-members))
-    ] in
-    below_more (λ k. has members (get_or list k 0) ≡ false) i c.loop-i.invariant out
-
-pub returns-clause-value : goal.returns-clause-value
-returns-clause-value c =
-    c.lowest_of.ensures ∙ sym (first_lowest c.args.order.now c.args.members.now (λ k h. c.loop-i.invariant k (omega arith)))
-
-pub returns-clause-law : goal.returns-clause-law
-returns-clause-law c =
-    let list = c.args.order.now in
-    let members = c.args.members.now in
-    let is = c.lowest_of.ensures ∙ sym (first_lowest list members (λ k h. c.loop-i.invariant k (omega arith))) in
-    subst (First list members) (sym is) (first_law list members)
+    let found : c.unwrap_or_else.result ≡ unwrap_or (find (has members) list) (least (has members)) = search rules in
+    let value = found ∙ first_found list members in
+    record { value = value; law = subst (First list members) (sym value) (first_law list members) }
