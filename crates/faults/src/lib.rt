@@ -2,15 +2,17 @@
 #![tactic(auto)]
 
 ghost use Rattle.std.specs.Prelude.{◌≡◌};
+ghost use Rattle.faults.specs.Texts.{fault_text};
 ghost use Rattle.faults.specs.declared.Fault.TheVariants as fault;
 ghost use Rattle.query.specs.declared.types.DraftError.TheVariants as draft;
 
 use cells::headings::HeadingRefusal;
 use query::types::{DraftError, Refusal};
 use std::alloc::{AllocError, AllocFailed};
+use std::error::Error;
 use std::{fmt, io};
 
-#[derive(Drop)]
+#[derive(Debug, Drop)]
 pub enum Fault {
     Heading(HeadingRefusal),
     Draft(DraftError),
@@ -18,19 +20,20 @@ pub enum Fault {
     Io(io::Error),
 }
 
+// By hand: the kit's derive writes a `From` with no contract, and a clause names the fault that each of these gives.
 impl From<HeadingRefusal> for Fault {
-    ghost from_gives = { λ no' r. r ≡ fault.Heading no' };
+    ghost from_gives = { λ refusal r. r ≡ fault.Heading refusal };
 
-    fn from(no: HeadingRefusal) -> Fault {
-        Fault::Heading(no)
+    fn from(refusal: HeadingRefusal) -> Fault {
+        Fault::Heading(refusal)
     }
 }
 
 impl From<Refusal> for Fault {
-    ghost from_gives = { λ no' r. r ≡ fault.Draft (draft.Refused no') };
+    ghost from_gives = { λ refusal r. r ≡ fault.Draft (draft.Refused refusal) };
 
-    fn from(no: Refusal) -> Fault {
-        Fault::Draft(DraftError::Refused(no))
+    fn from(refusal: Refusal) -> Fault {
+        Fault::Draft(DraftError::Refused(refusal))
     }
 }
 
@@ -66,18 +69,18 @@ impl From<io::Error> for Fault {
     }
 }
 
-// What `main` prints of it: the number that a call refused with, or what failed.
-impl fmt::Debug for Fault {
+// The number that a call refused with, or what failed.
+impl fmt::Display for Fault {
+    ghost output = { fault_text };
+
     fn fmt<W: fmt::Write>(&self, f: &mut fmt::Formatter<W>) -> fmt::Result {
         match self {
             Fault::Heading(refusal) => write!(f, "{refusal}"),
-            Fault::Draft(DraftError::Refused(refusal)) => {
-                let number = refusal.number();
-                write!(f, "refused {number}")
-            }
-            Fault::Draft(DraftError::Memory) => write!(f, "out of memory"),
+            Fault::Draft(e) => write!(f, "{e}"),
             Fault::Memory => write!(f, "out of memory"),
             Fault::Io(e) => write!(f, "{e:?}"),
         }
     }
 }
+
+impl Error for Fault {}

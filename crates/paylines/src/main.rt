@@ -58,10 +58,7 @@ fn take_row(
                 }
             }
         }
-        Err(no) => {
-            let number = no.number();
-            println!(rt; "{name} {words}: refused {number}")?;
-        }
+        Err(refusal) => println!(rt; "{name} {words}: {refusal}")?,
     }
     Ok(())
 }
@@ -112,6 +109,6 @@ fn show_stores(
     Ok(())
 }
 
-fn main(rt: HostRuntime) -> Result<(), Fault> {
-    run(&rt)
+fn main(rt: HostRuntime) -> anyhow::Result<()> {
+    Ok(run(&rt)?)
 }

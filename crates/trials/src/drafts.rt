@@ -32,39 +32,28 @@ const NO_TABLE: Column = Column {
     column: 1,
 };
 
-// The number of a refusal; 0 for a call that was granted or found no memory.
-fn number_of(res: Result<(), DraftError>) -> u8 {
-    match res {
-        Err(DraftError::Refused(no)) => no.number(),
-        _ => 0,
-    }
-}
-
-fn refusal_of(res: Result<(), Refusal>) -> u8 {
-    match res {
-        Err(no) => no.number(),
-        Ok(()) => 0,
+// The refusal that a draft answered with; a call that found no memory counts as granted.
+fn refusal_of(answer: Result<(), DraftError>) -> Result<(), Refusal> {
+    match answer {
+        Err(DraftError::Refused(refusal)) => Err(refusal),
+        _ => Ok(()),
     }
 }
 
 pub(crate) fn show_tables(rt: &HostRuntime, heap: Global) -> Result<(), Fault> {
-    let heading = pair();
+    let heading = pair()?;
     let mut full = star(heap, 6)?;
-    say(
-        rt,
-        "a seventh table",
-        refusal_of(full.add_table(heading, NUMBER, 1)),
-    )?;
+    say(rt, "a seventh table", full.add_table(heading, NUMBER, 1))?;
     let mut draft = star(heap, 1)?;
     say(
         rt,
         "a new table joined by a column that it lacks",
-        refusal_of(draft.add_table(heading, NUMBER, 3)),
+        draft.add_table(heading, NUMBER, 3),
     )?;
     say(
         rt,
         "a new table joined by columns of two kinds",
-        refusal_of(draft.add_table(heading, NUMBER, 2)),
+        draft.add_table(heading, NUMBER, 2),
     )
 }
 
@@ -85,28 +74,24 @@ pub(crate) fn show_joins(rt: &HostRuntime, heap: Global) -> Result<(), Fault> {
     say(
         rt,
         "a join to a table that there is not",
-        refusal_of(draft.add_join(join(NUMBER, NO_TABLE))),
+        draft.add_join(join(NUMBER, NO_TABLE)),
     )?;
     say(
         rt,
         "a join of a table with itself",
-        refusal_of(draft.add_join(join(NUMBER, NUMBER))),
+        draft.add_join(join(NUMBER, NUMBER)),
     )?;
     say(
         rt,
         "a join of columns of two kinds",
-        refusal_of(draft.add_join(join(CODE, SECOND))),
+        draft.add_join(join(CODE, SECOND)),
     )?;
     fill_joins(&mut draft)?;
-    say(
-        rt,
-        "an eleventh join",
-        refusal_of(draft.add_join(join(NUMBER, SECOND))),
-    )
+    say(rt, "an eleventh join", draft.add_join(join(NUMBER, SECOND)))
 }
 
-fn filter(draft: &mut Draft, left: &[Item]) -> u8 {
-    number_of(draft.add_filter(Test::AtMost, left, &[Item::Number(9)]))
+fn filter(draft: &mut Draft, left: &[Item]) -> Result<(), Refusal> {
+    refusal_of(draft.add_filter(Test::AtMost, left, &[Item::Number(9)]))
 }
 
 fn fill_filters(draft: &mut Draft) {
@@ -147,18 +132,18 @@ pub(crate) fn show_shown(rt: &HostRuntime, heap: Global) -> Result<(), Fault> {
     say(
         rt,
         "a shown number out of range",
-        number_of(draft.show_value(&[Item::Number(1_000_000_000_000)])),
+        refusal_of(draft.show_value(&[Item::Number(1_000_000_000_000)])),
     )?;
     say(
         rt,
         "a shown column that there is not",
-        number_of(draft.show_code(NONE)),
+        refusal_of(draft.show_code(NONE)),
     )?;
     fill_shown(&mut draft)?;
     say(
         rt,
         "a seventh shown thing",
-        number_of(draft.show_value(&[Item::Number(1)])),
+        refusal_of(draft.show_value(&[Item::Number(1)])),
     )
 }
 
@@ -169,35 +154,28 @@ fn letter(byte: u8) -> Cell {
     })
 }
 
-fn accepts(draft: &Draft, table: usize, cells: &[Cell]) -> u8 {
-    match draft.accepts(table, cells) {
-        Ok(()) => 0,
-        Err(no) => no.number(),
-    }
-}
-
 pub(crate) fn show_rows(rt: &HostRuntime, heap: Global) -> Result<(), Fault> {
     let draft = star(heap, 1)?;
     let five = Cell::Number(5);
     say(
         rt,
         "a row that fits",
-        accepts(&draft, 0, &[five, letter(b'A')]),
+        draft.accepts(0, &[five, letter(b'A')]),
     )?;
     say(
         rt,
         "a row of a table that there is not",
-        accepts(&draft, 1, &[five, letter(b'A')]),
+        draft.accepts(1, &[five, letter(b'A')]),
     )?;
-    say(rt, "a row that is short", accepts(&draft, 0, &[five]))?;
+    say(rt, "a row that is short", draft.accepts(0, &[five]))?;
     say(
         rt,
         "a row with an unlawful code",
-        accepts(&draft, 0, &[five, letter(b'a')]),
+        draft.accepts(0, &[five, letter(b'a')]),
     )?;
     say(
         rt,
         "a row with its kinds turned round",
-        accepts(&draft, 0, &[letter(b'A'), five]),
+        draft.accepts(0, &[letter(b'A'), five]),
     )
 }

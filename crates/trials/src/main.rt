@@ -6,7 +6,7 @@ mod drafts;
 mod spellings;
 mod values;
 
-use cells::headings::Heading;
+use cells::headings::{Heading, HeadingRefusal};
 use cells::types::Kind;
 use expressions::types::Column;
 use faults::Fault;
@@ -15,24 +15,29 @@ use std::alloc::Global;
 use std::io::Write;
 
 // Prints what was tried, and the number that it was refused with; 0 if it was granted.
-fn say(rt: &HostRuntime, what: &str, number: u8) -> Result<(), Fault> {
+fn say<E>(rt: &HostRuntime, what: &str, answer: Result<(), E>) -> Result<(), Fault>
+where
+    u8: From<E>,
+{
+    let number = answer.map_or_else(u8::from, |()| 0);
     println!(rt; "{what}: {number}")?;
     Ok(())
 }
 
 // A heading with a number column and a code column.
-fn pair() -> Heading {
+fn pair() -> Result<Heading, HeadingRefusal> {
     let mut heading = Heading::new(Kind::Number);
-    let _ = heading.push(Kind::Code);
-    heading
+    heading.push(Kind::Code)?;
+    Ok(heading)
 }
 
 // A draft of n tables, each joined to the first by its number column.
 fn star(heap: Global, n: usize) -> Result<Draft, Fault> {
-    let mut draft = Draft::new(heap, pair())?;
+    let heading = pair()?;
+    let mut draft = Draft::new(heap, heading)?;
     for _ in 1..n {
         draft.add_table(
-            pair(),
+            heading,
             Column {
                 table: 0,
                 column: 1,
@@ -43,20 +48,13 @@ fn star(heap: Global, n: usize) -> Result<Draft, Fault> {
     Ok(draft)
 }
 
-fn seventh_column() -> u8 {
-    let mut heading = Heading::new(Kind::Number);
-    let mut number = 0;
-    for _ in 0..6 {
-        if let Err(no) = heading.push(Kind::Code) {
-            number = u8::from(no);
-        }
-    }
-    number
-}
-
 fn show_refusals(rt: &HostRuntime) -> Result<(), Fault> {
     let heap = rt.alloc();
-    say(rt, "a seventh column", seventh_column())?;
+    let mut heading = Heading::new(Kind::Number);
+    for _ in 0..5 {
+        heading.push(Kind::Code)?;
+    }
+    say(rt, "a seventh column", heading.push(Kind::Code))?;
     drafts::show_tables(rt, heap)?;
     drafts::show_joins(rt, heap)?;
     drafts::show_filters(rt, heap)?;
@@ -71,9 +69,13 @@ fn show_answer(rt: &HostRuntime) -> Result<(), Fault> {
     Ok(())
 }
 
-fn main(rt: HostRuntime) -> Result<(), Fault> {
-    spellings::show(&rt)?;
-    values::show(&rt)?;
-    show_refusals(&rt)?;
-    show_answer(&rt)
+fn run(rt: &HostRuntime) -> Result<(), Fault> {
+    spellings::show(rt)?;
+    values::show(rt)?;
+    show_refusals(rt)?;
+    show_answer(rt)
+}
+
+fn main(rt: HostRuntime) -> anyhow::Result<()> {
+    Ok(run(&rt)?)
 }

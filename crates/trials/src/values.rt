@@ -3,28 +3,19 @@ use cells::types::Cell;
 use expressions::types::{Column, Item};
 use expressions::{value, well_formed};
 use faults::Fault;
+use std::array;
 
 // n operators, each before what follows it, over n + 1 numbers.
 fn nested(n: usize) -> [Item; 15] {
-    let mut items = [Item::Number(1); 15];
-    for i in 0..15 {
-        if i < n {
-            items[i] = Item::Add;
-        }
-    }
-    items
+    array::from_fn(|i| if i < n { Item::Add } else { Item::Number(1) })
 }
 
 // 33 items that are the sum of four sums of a sum of two sums each, and of one number.
 fn many() -> [Item; 33] {
-    let mut items = [Item::Number(1); 33];
-    for i in 0..4 {
-        items[8 * i] = Item::Add;
-        items[8 * i + 1] = Item::Add;
-        items[8 * i + 2] = Item::Add;
-        items[8 * i + 5] = Item::Add;
-    }
-    items
+    array::from_fn(|i| match i % 8 {
+        0 | 1 | 2 | 5 if i < 32 => Item::Add,
+        _ => Item::Number(1),
+    })
 }
 
 fn word(yes: bool) -> &'static str {
