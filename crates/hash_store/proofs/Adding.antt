@@ -1,63 +1,76 @@
--- A new row, filed in one column after the other.
-use Rattle.std.proofs.Common.{◌≡◌, ℕ, ◌+◌, ◌-◌, ◌<◌, ◌≤◌, List, [], ◌∷◌, ◌++◌, map, length, get_or, take, set, replicate, sym, refl, ap, ◌∙◌, subst, ⊎_elim, arith}
-use Rattle.std.proofs.lemmas.List.{get_or-set_same, get_or-set_other, get_or-replicate, take-set, take_more_set, map-append}
-use Rattle.std.proofs.lemmas.Bool.{cases_eq}
+-- A new row, filed in the column of one cell after the other.
+use Rattle.std.proofs.Common.{◌≡◌, ℕ, ◌+◌, ◌-◌, ◌<◌, ◌≤◌, List, [], ◌∷◌, ◌++◌, length, get_or, take, min, Some, replicate, sym, refl, ap, ◌∙◌, subst, ⊎_elim, arith}
+use Rattle.std.proofs.lemmas.List.{map-append, length_push, get_or_append_left, get_or_push, get_or_past, get_or-replicate}
+use Rattle.std.proofs.lemmas.Bool.{cases_eq, cases_lt}
+use Rattle.std.proofs.lemmas.Grind.{common_steps}
+use Rattle.basis.specs.Lists.{numbered}
+use Rattle.basis.proofs.Counted.{numbered_past}
+use Rattle.cells.specs.declared.types.Cell.{Cell}
 use Rattle.stores.specs.Tables.{Built}
+use Rattle.hash_store.specs.declared.place.Ends.{Ends}
 use Rattle.hash_store.specs.declared.place.Place.{Place}
-use Rattle.hash_store.specs.Chains.{no_place, row_in, rows_in, link_in, IsColumn, Chained, AllChained}
+use Rattle.hash_store.specs.Buckets.{is_filed}
+use Rattle.hash_store.specs.Chains.{no_place, row_in, rows_in, IsColumn, Chained, AllChained}
 use Rattle.hash_store.specs.Rows.{length_rows}
-use Rattle.hash_store.specs.Placing.{chained_same, same_rows}
+use Rattle.hash_store.specs.Placing.{chained_same, chained_none}
 
--- the columns below `column` have the row, the others not yet; ps₀ are the places before the first
-pub record PartFiled (ps₀ ps : List Place) (heads tails : List ℕ) (count column : ℕ) : Type 0 where
-  pub rows : map row_in ps ≡ map row_in ps₀
-  pub newest : get_or ps count no_place ≡ get_or ps₀ count no_place
-  pub done : (d : ℕ) → IsColumn d → d < column → Chained (rows_in ps (count + 1)) ps heads tails d
-  pub left : (d : ℕ) → IsColumn d → column ≤ d → Chained (rows_in ps count) ps heads tails d
+-- the columns up to c have the row, the others not yet; ps₀ are the places before the first
+module _ (ps₀ : List Place) (cells : List Cell) where
+  pub record PartFiled (ps : List Place) (ends : List Ends) (c : ℕ) : Type 0 where
+    pub rows : rows_in ps ≡ rows_in ps₀
+    pub done : (r : Built) → r.cells ≡ cells → (d : ℕ) → IsColumn d → d ≤ c → Chained (rows_in ps₀ ++ r ∷ []) ps ends d
+    pub left : (d : ℕ) → IsColumn d → c < d → Chained (rows_in ps₀) ps ends d
 
-module _ (ps : List Place) (heads tails : List ℕ) (count : ℕ) (p : Place) (room : count < length ps) where
-  pub filed_none : AllChained (rows_in ps count) ps heads tails → PartFiled (set ps count p) (set ps count p) heads tails count 1
-  filed_none old = record {
-    rows = refl;
-    newest = refl;
-    done = λ d is lt. absurd (let k = is.0 in let z : ⊥ = omega arith in z);
-    left = λ d is le. subst (λ (xs : List Built). Chained xs (set ps count p) heads tails d) (sym before)
-        (chained_same (rows_in ps count) ps (set ps count p) heads heads tails tails d (λ b small. refl) (λ b small. refl)
-        (λ i lt. let long = length_rows ps count (omega arith) in
-        ap (λ (q : Place). get_or q.links (d - 1) 0) (get_or-set_other ps count i p no_place (λ e. omega arith)))
-        (old d is));
+  -- one column more
+  pub filed_more : (ps qs : List Place) (ends ends' : List Ends) (c : ℕ) (x : Cell) → numbered cells (c + 1) ≡ Some x
+      → PartFiled ps ends c → rows_in qs ≡ rows_in ps
+      → ((r : Built) → numbered r.cells (c + 1) ≡ Some x → Chained (rows_in ps ++ r ∷ []) qs ends' (c + 1))
+      → ((rows : List Built) (d : ℕ) → IsColumn d → (d ≡ c + 1 → ⊥) → Chained rows ps ends d → Chained rows qs ends' d)
+      → PartFiled qs ends' (c + 1)
+  filed_more ps qs ends ends' c x cell f rows here others = record {
+    rows = rows ∙ f.rows;
+    done = λ r is d in_range le. ⊎_elim
+        (λ (e : d ≡ c + 1). subst (λ k. Chained (rows_in ps₀ ++ r ∷ []) qs ends' k) (sym e)
+        (subst (λ (rs : List Built). Chained (rs ++ r ∷ []) qs ends' (c + 1)) f.rows (here r (ap (λ cs. numbered cs (c + 1)) is ∙ cell))))
+        (λ ne. others (rows_in ps₀ ++ r ∷ []) d in_range ne (f.done r is d in_range (omega arith)))
+        (cases_eq d (c + 1));
+    left = λ d in_range lt. others (rows_in ps₀) d in_range (λ e. omega arith) (f.left d in_range (omega arith));
   }
-    where
-      before : rows_in (set ps count p) count ≡ rows_in ps count
-      before = ap (map row_in) (take-set ps count p)
 
-module _ (ps : List Place) (count : ℕ) (p : Place) (room : count < length ps) where
-  -- the new row is behind the others
-  pub filed_rows : (qs : List Place) → map row_in qs ≡ map row_in (set ps count p) → rows_in qs (count + 1) ≡ rows_in ps count ++ row_in p ∷ []
-  filed_rows qs e =
-      same_rows (set ps count p) qs (count + 1) e ∙ ap (map row_in) (take_more_set ps count p room) ∙ map-append row_in (take count ps) (p ∷ [])
+  -- the columns behind the last cell have no more rows than before
+  pub filed_all : (ps : List Place) (ends : List Ends) (c : ℕ) → length cells ≤ c → PartFiled ps ends c → (r : Built) → r.cells ≡ cells → AllChained (rows_in ps₀ ++ r ∷ []) ps ends
+  filed_all ps ends c end f r is d in_range =
+      ⊎_elim
+      (λ (lt : c < d). chained_none (rows_in ps₀) ps ends d r (sym f.rows) in_range.0 in_range.1 (f.left d in_range lt)
+      (λ b. ap (λ o. is_filed o b) (ap (λ cs. numbered cs d) is ∙ numbered_past cells d (omega arith))))
+      (λ le. f.done r is d in_range le)
+      (cases_lt c d)
 
-  -- its links are 0 until it has a follower
-  pub fresh : (qs : List Place) (column : ℕ) → p.links ≡ replicate 6 0 → IsColumn column → get_or qs count no_place ≡ get_or (set ps count p) count no_place → link_in qs column count ≡ 0
-  fresh qs column zeros is e =
-      let low = is.0 in
-      let high = is.1 in
-      ap (λ (q : Place). get_or q.links (column - 1) 0) (e ∙ get_or-set_same ps count p no_place room)
-      ∙ ap (λ ls. get_or ls (column - 1) 0) zeros ∙ get_or-replicate 6 (column - 1) 0 0 (omega arith)
+-- the place of the new row, of which no link is set, taken behind the others
+pub placed : (rows : List Built) (ps : List Place) (ends : List Ends) (p : Place) → length rows ≡ length ps + 1 → p.links ≡ replicate 6 0 → AllChained rows ps ends → AllChained rows (ps ++ p ∷ []) ends
+placed rows ps ends p long zeros h d is =
+    chained_same rows ps (ps ++ p ∷ []) ends ends d (λ b small. refl)
+    (λ i lt. ⊎_elim
+    (λ (old : i < length ps). ap (λ (q : Place). get_or q.links (d - 1) 0) (get_or_append_left ps (p ∷ []) no_place i old))
+    (λ ge. let e : length ps ≡ i = omega arith in
+    let low = is.0 in
+    let high = is.1 in
+    ap (λ (q : Place). get_or q.links (d - 1) 0) (get_or_push ps p no_place i e) ∙ ap (λ ls. get_or ls (d - 1) 0) zeros ∙ get_or-replicate 6 (d - 1) 0 0 (omega arith)
+    ∙ sym (ap (λ (q : Place). get_or q.links (d - 1) 0) (get_or_past ps i no_place ge)))
+    (cases_lt i (length ps)))
+    (h d is)
 
--- one column more
-pub filed_more : (ps₀ ps qs : List Place) (heads heads' tails tails' : List ℕ) (count column : ℕ)
-    → PartFiled ps₀ ps heads tails count column → map row_in qs ≡ map row_in ps → get_or qs count no_place ≡ get_or ps count no_place
-    → Chained (rows_in qs (count + 1)) qs heads' tails' column
-    → ((rows : List Built) (d : ℕ) → IsColumn d → (d ≡ column → ⊥) → Chained rows ps heads tails d → Chained rows qs heads' tails' d)
-    → PartFiled ps₀ qs heads' tails' count (column + 1)
-filed_more ps₀ ps qs heads heads' tails tails' count column f rows newest here others = record {
-  rows = rows ∙ f.rows;
-  newest = newest ∙ f.newest;
-  done = λ d is lt. ⊎_elim
-      (λ (e : d ≡ column). subst (λ k. Chained (rows_in qs (count + 1)) qs heads' tails' k) (sym e) here)
-      (λ ne. subst (λ (xs : List Built). Chained xs qs heads' tails' d) (sym (same_rows ps qs (count + 1) rows)) (others (rows_in ps (count + 1)) d is ne (f.done d is (omega arith))))
-      (cases_eq d column);
-  left = λ d is le. subst (λ (xs : List Built). Chained xs qs heads' tails' d) (sym (same_rows ps qs count rows))
-      (others (rows_in ps count) d is (λ e. omega arith) (f.left d is (omega arith)));
-}
+-- the table with the new row
+pub all_more : (ps qs then : List Place) (ends : List Ends) (p : Place) → rows_in qs ≡ rows_in ps → then ≡ qs ++ p ∷ [] → p.links ≡ replicate 6 0 → AllChained (rows_in ps ++ row_in p ∷ []) qs ends
+    → (rows_in then ≡ rows_in ps ++ row_in p ∷ []) × AllChained (rows_in then) then ends
+all_more ps qs then ends p rows items zeros h =
+    let more : rows_in (qs ++ p ∷ []) ≡ rows_in ps ++ row_in p ∷ [] = map-append row_in qs (p ∷ []) ∙ ap (λ rs. rs ++ row_in p ∷ []) rows in
+    let long : length (rows_in ps ++ row_in p ∷ []) ≡ length qs + 1 = length_push (rows_in ps) (row_in p) ∙ ap (λ n. n + 1) (sym (ap length rows) ∙ length_rows qs) in (
+      ap rows_in items ∙ more,
+      subst (λ (l : List Place). AllChained (rows_in l) l ends) (sym items)
+          (subst (λ (rs : List Built). AllChained rs (qs ++ p ∷ []) ends) (sym more) (placed (rows_in ps ++ row_in p ∷ []) qs ends p long zeros h)),
+    )
+
+-- the cells of a row are those in use of its six
+pub held : (xs : List Cell) (n : ℕ) → length xs ≡ 6 → take (min n 6) xs ≡ take n xs
+held xs n six = grind (arith, common_steps)

@@ -1,2 +1,3 @@
 mod Adding
 mod Draining
+mod Looking

@@ -43,13 +43,10 @@ module _ (rows : List Built) (narrow : AllNarrow rows) (column : ℕ) (out : (co
       ∙ (let e = none_upto (cell_bucket key) (length rows) (omega arith) in omega arith)
 
 -- what a walk counts is what a question visits
-pub visited_is : (rows : List Built) (column : ℕ) (key : Cell) (after b behind visited : ℕ) → b ≡ cell_bucket key → behind ≡ begins_behind rows column b after
-    → visited + filed_upto rows column (cell_bucket key) behind ≡ filed_upto rows column (cell_bucket key) (ends_at (next_after (matches column key) after rows) rows)
+pub visited_is : (rows : List Built) (column : ℕ) (key : Cell) (after visited : ℕ)
+    → visited + filed_upto rows column (cell_bucket key) (begins_behind rows column (cell_bucket key) after) ≡ filed_upto rows column (cell_bucket key) (ends_at (next_after (matches column key) after rows) rows)
     → visited ≡ visits rows column key after
-visited_is rows column key after b behind visited e from sum =
-    let begin = from ∙ ap (λ k. begins_behind rows column k after) e in
-    let same = ap (filed_upto rows column (cell_bucket key)) begin in
-    omega arith
+visited_is rows column key after visited sum = omega arith
 
 pub narrow_push : (rows : List Built) (r : Built) → AllNarrow rows → length r.cells ≤ 6 → AllNarrow (rows ++ r ∷ [])
 narrow_push rows r old few i lt =

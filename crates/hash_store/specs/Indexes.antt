@@ -5,4 +5,4 @@ use Rattle.hash_store.specs.declared.index.TableIndex.{TableIndex}
 use Rattle.hash_store.specs.Chains.{rows_in}
 
 abbrev pub table_of : TableIndex → Table
-table_of x = record { rows = rows_in (vec_items x.places) x.count; room = x.room }
+table_of x = record { rows = rows_in (vec_items x.places); room = x.room }

@@ -1,8 +1,8 @@
 -- A walk along a chain passes over no match, and counts the rows of the bucket.
-use Rattle.std.specs.Prelude.{◌≡◌, ℕ, zero, suc, ◌+◌, ◌-◌, ◌<◌, ◌≤◌, true, false, cond, List, length, take, Some, None, Option, ◌==◌, nat_eq, slice_index_or, refl}
-use Rattle.std.proofs.Common.{sym, ap, subst, ◌∙◌, ⊎_elim, add-one, arith, length-take}
+use Rattle.std.specs.Prelude.{◌≡◌, ℕ, zero, suc, ◌+◌, ◌-◌, ◌<◌, ◌≤◌, true, false, cond, List, length, Some, None, Option, ◌==◌, nat_eq, slice_index_or, refl}
+use Rattle.std.proofs.Common.{sym, ap, subst, ◌∙◌, ⊎_elim, add-one, arith}
 use Rattle.std.proofs.lemmas.List.{get_or_default}
-use Rattle.std.proofs.lemmas.List.Sums.{count_by_more_yes, count_by_more_no, count_by-le-length}
+use Rattle.std.proofs.lemmas.List.Sums.{count_by_more_yes, count_by_more_no}
 use Rattle.std.proofs.lemmas.Bool.{both_ways, eq-eqb, ne_eqb, cases_Bool, cases_lt, cases_eq}
 use Rattle.basis.specs.Lists.{numbered}
 use Rattle.cells.specs.declared.types.Cell.{Cell}
@@ -50,11 +50,6 @@ module _ (rows : List Built) (column : ℕ) (key : Cell) (after behind : ℕ) wh
     pub here : 0 < at → in_bucket column (cell_bucket key) (slice_index_or rows (at - 1) no_row) ≡ true
     pub seen : 0 < at → visited + filed_upto rows column (cell_bucket key) behind ≡ filed_upto rows column (cell_bucket key) (at - 1)
     pub all : at ≡ 0 → visited + filed_upto rows column (cell_bucket key) behind ≡ filed_upto rows column (cell_bucket key) (length rows)
-
-  pub walk_few : (at visited : ℕ) → Walk at visited → 0 < at → visited < at
-  walk_few at visited w pos =
-      let most = count_by-le-length (in_bucket column (cell_bucket key)) (take (at - 1) rows) in
-      omega (arith, w.seen pos, most, length-take (at - 1) rows)
 
   -- from the first lo rows on to the next of the bucket
   pub walk_from : (lo y visited : ℕ) → lo ≤ length rows → (after ≤ lo → next_after (matches column key) after rows ≡ next_after (matches column key) lo rows)
@@ -153,6 +148,16 @@ next_filed_above rows column b lo y e pos = go (next_after (in_bucket column b) 
         let f = next_found (in_bucket column b) lo rows m h in
         let z = e ∙ ap or_zero h in
         omega (arith, f.is, f.above)
+
+pub next_filed_kept : (rows : List Built) (column b lo y : ℕ) → y ≡ next_filed rows column b lo → y ≤ length rows
+next_filed_kept rows column b lo y e = go (next_after (in_bucket column b) lo rows) refl
+  where
+    go : (o : Option ℕ) → next_after (in_bucket column b) lo rows ≡ o → y ≤ length rows
+    go None h = let z = e ∙ ap or_zero h in omega arith
+    go (Some m) h =
+        let f = next_found (in_bucket column b) lo rows m h in
+        let z = e ∙ ap or_zero h in
+        omega (arith, f.is, f.within)
 
 -- the measure of a walk falls
 pub later : (n at y : ℕ) → 0 < at → (0 < y → (at < y) × (y ≤ n)) → cond (y == 0) 0 (suc (n - y)) < cond (at == 0) 0 (suc (n - at))

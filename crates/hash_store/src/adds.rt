@@ -1,57 +1,48 @@
-// A new row: put into the first free place, and filed in each column behind the last row of its bucket.
-ghost use Rattle.std.specs.Prelude.{◌≡◌, ℕ, ◌+◌, ◌<◌, ◌≤◌, List, [], ◌∷◌, ◌++◌, map, length, ◌≢◌, slice_index_or};
-ghost use Rattle.stores.specs.Tables.{Built, built_row};
-ghost use Rattle.hash_store.specs.Chains.{no_place, row_in, rows_in, link_in, IsColumn, Chained, AllChained};
+// A new row, filed in the column of each of its cells behind the last row of the bucket. It takes the place behind the others.
+ghost use Rattle.std.specs.Prelude.{◌≡◌, ℕ, ◌<◌, ◌≤◌, List, Some, [], ◌∷◌, ◌++◌, length, ◌≢◌};
+ghost use Rattle.basis.specs.Lists.{numbered};
+ghost use Rattle.cells.specs.Rows.{cells_of};
+ghost use Rattle.stores.specs.Tables.{Built};
+ghost use Rattle.hash_store.specs.Chains.{rows_in, IsColumn, Chained, AllChained};
 
-use crate::place::Place;
-use crate::walks::bucket;
+use crate::index::walks::bucket;
+use crate::place::{Ends, Place};
 use cells::rows::Row;
+use cells::types::Cell;
 
-// Files the row in the place behind the first `count` in one column.
-fn file_row(places: &mut [Place], heads: &mut [u16], tails: &mut [u16], count: usize, column: usize)
-    requires within { (count < 1024) × (count < length places.old) × (length heads.old ≡ 384) × (length tails.old ≡ 384) × (0 < column) × (column ≤ 6) }
-    requires chained { Chained (rows_in places.old count) places.old heads.old tails.old column }
-    requires newest { link_in places.old column count ≡ 0 }
-    ensures rows { map row_in places.new ≡ map row_in places.old }
-    ensures newest { slice_index_or places.new count no_place ≡ slice_index_or places.old count no_place }
-    ensures filed { Chained (rows_in places.new (count + 1)) places.new heads.new tails.new column }
-    ensures others { (rows : List Built) (other : ℕ) → IsColumn other → (other ≢ column) → Chained rows places.old heads.old tails.old other → Chained rows places.new heads.new tails.new other }
+// Files the next row in one column, in which it has the cell x.
+fn file_cell(places: &mut [Place], ends: &mut [Ends; 384], column: usize, x: &Cell)
+    requires few { length places.old < 1024 }
+    requires column { IsColumn column }
+    requires chained { Chained (rows_in places.old) places.old ends.old column }
+    ensures rows { rows_in places.new ≡ rows_in places.old }
+    ensures filed { (r : Built) → numbered r.cells column ≡ Some x.now → Chained (rows_in places.old ++ r ∷ []) places.new ends.new column }
+    ensures others { (rows : List Built) (other : ℕ) → IsColumn other → (other ≢ column) → Chained rows places.old ends.old other → Chained rows places.new ends.new other }
 {
-    let Some(x) = places[count].row.cell(column) else {
-        return;
-    };
-    let at = (column - 1) * 64 + bucket(&x);
-    let last = tails[at] as usize;
-    let number = (count + 1) as u16;
-    tails[at] = number;
-    if last == 0 {
-        heads[at] = number;
+    let at = (column - 1) * 64 + bucket(x);
+    let number = (places.len() + 1) as u16;
+    let Ends { head, tail } = ends[at];
+    if tail == 0 {
+        ends[at] = Ends {
+            head: number,
+            tail: number,
+        };
     } else {
-        let links: &mut [u16] = &mut places[last - 1].links;
-        links[column - 1] = number;
+        ends[at] = Ends { head, tail: number };
+        let last = &mut places[tail as usize - 1];
+        last.links[column - 1] = number;
     }
 }
 
-// Puts a row into the place behind the first `count`, and files it in every column.
-pub(crate) fn add(
-    places: &mut [Place],
-    heads: &mut [u16],
-    tails: &mut [u16],
-    count: usize,
-    row: Row,
-    stamp: u64,
-)
-    requires within { (count < 1024) × (count < length places.old) × (length heads.old ≡ 384) × (length tails.old ≡ 384) }
-    requires chained { AllChained (rows_in places.old count) places.old heads.old tails.old }
-    ensures rows { rows_in places.new (count + 1) ≡ rows_in places.old count ++ (built_row row stamp ∷ []) }
-    ensures chained { AllChained (rows_in places.new (count + 1)) places.new heads.new tails.new }
+// Files the next row in the columns of its cells.
+pub(crate) fn file_row(places: &mut [Place], ends: &mut [Ends; 384], row: Row)
+    requires few { length places.old < 1024 }
+    requires chained { AllChained (rows_in places.old) places.old ends.old }
+    ensures rows { rows_in places.new ≡ rows_in places.old }
+    ensures filed { (r : Built) → r.cells ≡ cells_of row → AllChained (rows_in places.old ++ r ∷ []) places.new ends.new }
 {
-    places[count] = Place {
-        row,
-        stamp,
-        links: [0; 6],
-    };
-    for column in 1..7 {
-        file_row(places, heads, tails, count, column);
+    let cells = &row.cells[..row.len.min(6)];
+    for (c, x) in cells.iter().enumerate() {
+        file_cell(places, ends, c + 1, x);
     }
 }

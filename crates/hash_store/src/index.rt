@@ -1,21 +1,20 @@
 // One table's rows and the index over them.
-ghost use Rattle.std.specs.Prelude.{◌≡◌, ◌<◌, ◌≤◌, length, vec_len};
+ghost use Rattle.std.specs.Prelude.{◌≤◌, vec_len, vec_capacity};
 ghost use Rattle.hash_store.specs.Chains.{rows_in, AllChained, AllNarrow};
 
-use crate::place::Place;
+use crate::place::{Ends, Place};
 
 pub mod calls;
+pub(crate) mod walks;
 
-// The first `count` places hold the rows, in building order. For each column and bucket, `heads` has the oldest row and
-// `tails` the newest, or 0; the rows between are linked in the places.
+// The places hold the rows, in building order, and grow within what the caller handed in. For each column and bucket, `ends` has
+// the oldest row and the newest; the rows between are linked in the places.
 #[derive(Drop)]
 pub struct TableIndex {
     places: Vec<Place>,
-    heads: [u16; 384],
-    tails: [u16; 384],
-    count: usize,
+    ends: [Ends; 384],
     room: usize,
-    ghost within: { (count ≤ room) × (room ≤ vec_len places) × (room ≤ 1024) × (length heads ≡ 384) × (length tails ≡ 384) },
-    ghost chained: { ∥ AllChained (rows_in places.items count) places.items heads tails ∥₁ },
-    ghost narrow: { AllNarrow (rows_in places.items count) },
+    ghost within: { (vec_len places ≤ room) × (room ≤ vec_capacity places) × (room ≤ 1024) },
+    ghost chained: { ∥ AllChained (rows_in places.items) places.items ends ∥₁ },
+    ghost narrow: { AllNarrow (rows_in places.items) },
 }

@@ -4,4 +4,3 @@
 mod adds;
 pub mod index;
 pub mod place;
-mod walks;

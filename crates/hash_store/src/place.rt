@@ -1,8 +1,9 @@
-// A place for one row.
+// A place for one row, and the ends of a chain of places.
 use cells::rows::Row;
 use cells::types::Cell;
 
 // A row, its build number, and for each column the next newer row of its bucket, or 0.
+// By hand: a link is 0 for none, since the memory of a place is fixed, and an Option would make each link twice as long.
 #[derive(Clone, Copy)]
 pub struct Place {
     pub row: Row,
@@ -20,4 +21,11 @@ impl Place {
         stamp: 0,
         links: [0; 6],
     };
+}
+
+// The oldest row of a bucket and the newest, or 0.
+#[derive(Clone, Copy)]
+pub(crate) struct Ends {
+    pub head: u16,
+    pub tail: u16,
 }

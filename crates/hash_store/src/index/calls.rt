@@ -2,18 +2,16 @@
 ghost use Rattle.std.specs.Prelude.{◌≡◌, min, [], vec_len, IfOk};
 ghost use Rattle.std.proofs.Common.{sym};
 ghost use Rattle.stores.specs.Tables.{matches, next_after};
-ghost use Rattle.hash_store.specs.Buckets.{or_zero, visits};
-ghost use Rattle.hash_store.specs.Chains.{IsColumn};
+ghost use Rattle.hash_store.specs.Buckets.{visits};
 ghost use Rattle.hash_store.specs.Costs.{DrainLaw};
 ghost use Rattle.hash_store.specs.Indexes.{table_of};
 ghost use Rattle.hash_store.specs.Indexed.{index_within};
 ghost use Rattle.hash_store.specs.Answering.{empty_visits};
 
 use super::TableIndex;
-use crate::adds::add;
-use crate::place::Place;
-use crate::walks::{Walked, bucket, start_at, walk};
-use basis::Probed;
+use crate::adds::file_row;
+use crate::place::{Ends, Place};
+use basis::{Probed, numbered};
 use cells::rows::Row;
 use cells::types::Cell;
 use six_tables::Index;
@@ -30,31 +28,15 @@ impl TableIndex {
     }
 
     // An empty table in the places given, with the least of the capacity wanted, 1,024 and the places.
-    pub fn new(wanted: usize, places: Vec<Place>) -> TableIndex
+    pub fn new(wanted: usize, mut places: Vec<Place>) -> TableIndex
         ensures value { table_of result ≡ record { rows = []; room = min wanted (min 1024 (vec_len places)) } }
     {
         let room = wanted.min(places.len().min(1024));
+        places.clear();
         TableIndex {
             places,
-            heads: [0; 384],
-            tails: [0; 384],
-            count: 0,
+            ends: [Ends { head: 0, tail: 0 }; 384],
             room,
-        }
-    }
-
-    // Where a walk ends for a column that an index can have.
-    fn seek(&self, column: usize, key: Cell, after: usize) -> Walked
-        requires { IsColumn column }
-        ensures row { result.row ≡ or_zero (next_after (matches column key) after (table_of self.now).rows) }
-        ensures visited { result.visited ≡ visits (table_of self.now).rows column key after }
-    {
-        let places: &[Place] = &self.places;
-        let b = bucket(&key);
-        let start = start_at(places, &self.heads, self.count, column, b, after);
-        match key {
-            Cell::Number(z) => walk(places, self.count, &start, column, &z, after),
-            Cell::Code(c) => walk(places, self.count, &start, column, &c, after),
         }
     }
 }
@@ -70,43 +52,28 @@ impl Index for TableIndex {
     ghost free = { λ column key after. sym (empty_visits column key after) };
 
     fn build(&mut self, row: Row, stamp: u64) -> Result<(), BuildRefusal> {
-        if self.count >= self.room {
+        if self.places.len() >= self.room {
             return Err(BuildRefusal::Full);
         }
-        add(
-            &mut self.places,
-            &mut self.heads,
-            &mut self.tails,
-            self.count,
+        file_row(&mut self.places, &mut self.ends, row);
+        self.places.push_reserved(Place {
             row,
             stamp,
-        );
-        self.count += 1;
+            links: [0; 6],
+        });
         Ok(())
     }
 
     fn count(&self) -> usize {
-        self.count
+        self.places.len()
     }
 
     fn cell(&self, row: usize, column: usize) -> Option<Cell> {
-        if row == 0 {
-            return None;
-        }
-        if row > self.count {
-            return None;
-        }
-        self.places[row - 1].row.cell(column)
+        numbered(&self.places, row)?.row.cell(column)
     }
 
     fn stamp(&self, row: usize) -> Option<u64> {
-        if row == 0 {
-            return None;
-        }
-        if row > self.count {
-            return None;
-        }
-        Some(self.places[row - 1].stamp)
+        Some(numbered(&self.places, row)?.stamp)
     }
 
     fn probe(&self, question: Question) -> Probed<Option<usize>>
@@ -121,16 +88,6 @@ impl Index for TableIndex {
                 visited: 0,
             };
         }
-        let walked = self.seek(column, key, after);
-        if walked.row == 0 {
-            return Probed {
-                found: None,
-                visited: walked.visited,
-            };
-        }
-        Probed {
-            found: Some(walked.row),
-            visited: walked.visited,
-        }
+        self.seek(column, key, after)
     }
 }
