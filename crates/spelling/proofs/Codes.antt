@@ -1,7 +1,7 @@
 -- A code is told by its text.
-use Rattle.std.proofs.Common.{◌≡◌, ℕ, suc, ◌+◌, ◌-◌, ◌<◌, ◌≤◌, min, true, eqb, List, [], ◌∷◌, ◌++◌, length, get_or, take, drop, set, replicate, sym, refl, ap, ◌∙◌, ⊎_elim, append_assoc, arith, length-drop, take-append-drop}
-use Rattle.std.proofs.lemmas.List.{set_at, take_all, take_more, take_at, length-take-le}
-use Rattle.std.proofs.lemmas.Bool.{cases_lt, and_parts, eqb-true}
+use Rattle.std.proofs.Common.{◌≡◌, ℕ, ◌-◌, true, eqb, List, [], ◌∷◌, ◌++◌, length, drop, replicate, sym, refl, ap, ◌∙◌, arith, length-drop, take-append-drop}
+use Rattle.std.proofs.lemmas.List.{take_at, length-take-le}
+use Rattle.std.proofs.lemmas.Bool.{and_parts, eqb-true}
 use Rattle.std.specs.List.{list_all}
 use Rattle.cells.specs.Cells.{code_text}
 use Rattle.cells.specs.declared.types.Code.{Code}
@@ -37,21 +37,3 @@ code_is s c p =
 
 pub code_same : (s : List ℕ) (c d : Code) → SpellsCode s c → SpellsCode s d → c ≡ d
 code_same s c d p q = code_is s c p ∙ sym (code_is s d q)
-
--- one more byte of the padded ones
-pub padded_more : (s bytes : List ℕ) (i : ℕ) → i < length s → i < 12 → bytes ≡ take i s ++ replicate (12 - i) 0 → set bytes i (get_or s i 0) ≡ take (i + 1) s ++ replicate (12 - (i + 1)) 0
-padded_more s bytes i h room e =
-    let n : 12 - i ≡ suc (12 - (i + 1)) = omega arith in
-    let b = get_or s i 0 in
-    let rest : List ℕ = replicate (12 - (i + 1)) 0 in
-    ap (λ l. set l i b) (e ∙ ap (λ k. take i s ++ replicate k 0) n)
-    ∙ set_at (take i s) 0 rest b i (length-take-le i s (omega arith))
-    ∙ sym (append_assoc (take i s) (b ∷ []) rest)
-    ∙ ap (λ l. l ++ rest) (sym (take_more s i 0 h))
-
--- a text that is said to go past the places ends with them
-pub take_min : (xs : List ℕ) (n m i : ℕ) → length xs ≤ m → i ≡ min n m → take i xs ≡ take n xs
-take_min xs n m i short e = ⊎_elim
-    (λ less. ap (λ k. take k xs) (let k : i ≡ n = omega arith in k))
-    (λ more. take_all i xs (omega arith) ∙ sym (take_all n xs (omega arith)))
-    (cases_lt n m)

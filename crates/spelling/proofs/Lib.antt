@@ -1,6 +1,4 @@
 mod Codes
-mod Digits
-mod Numerals
 mod Signs
 pub mod Texts
 mod Wants

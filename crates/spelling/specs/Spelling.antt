@@ -1,5 +1,5 @@
 -- The bytes that spell a cell, and what it is to read them for a wanted kind.
-use Rattle.std.specs.Prelude.{◌≡◌, ℕ, ◌-◌, true, List, take, drop, ◌≢◌}
+use Rattle.std.specs.Prelude.{◌≡◌, ℕ, true, List, take, ◌≢◌}
 use Rattle.std.specs.Fmt.{signed_decimal}
 use Rattle.cells.specs.Cells.{lawful, kind_of, code_text}
 use Rattle.cells.specs.declared.types.Kind.{Kind}
@@ -26,4 +26,4 @@ OneSpelling = (c d : Cell) → kind_of c ≡ kind_of d → lawful c ≡ true →
 
 -- the bytes that a text holds
 abbrev pub text_of : Text → List ℕ
-text_of t = take (t.to - t.from) (drop t.from t.bytes)
+text_of t = take t.len t.bytes

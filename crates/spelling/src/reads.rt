@@ -1,39 +1,25 @@
 // The exact reading of a cell's spelling.
-ghost use Rattle.std.specs.Prelude.{◌≡◌, ◌-◌, ◌≤◌, ◌++◌, length, replicate};
+ghost use Rattle.std.specs.Prelude.{Decides};
 ghost use Rattle.basis.specs.Reading.{Exactly};
 ghost use Rattle.cells.specs.declared.types.Cell.TheVariants as cell;
 ghost use Rattle.spelling.specs.Spelling.{Spells, Wanted};
 
-use crate::naturals::read_natural;
+use crate::text::calls::spell_number;
 use cells::types::{Cell, Code, Kind};
 
-// The number that the bytes spell.
+// Do the bytes spell the number?
+fn spells_number(s: &[u8], z: i64) -> bool
+    ensures value { Decides result (Spells s.now (cell.Number z)) }
+{
+    cells::lawful_number(z) && spell_number(z).as_slice() == s
+}
+
+// The number that the bytes spell: the one that they are parsed as, if they spell it.
 pub fn read_number(s: &[u8]) -> Option<i64>
     ensures value { Exactly result (λ z. Spells s.now (cell.Number z)) }
 {
-    if s.len() > 0 && s[0] == b'-' {
-        match read_natural(&s[1..]) {
-            Some(n) => { if n == 0 { None } else { Some(-(n as i64)) } }
-            None => None,
-        }
-    } else {
-        match read_natural(s) {
-            Some(n) => Some(n as i64),
-            _ => None,
-        }
-    }
-}
-
-// Twelve places with these bytes, and 0 behind them.
-fn padded(s: &[u8]) -> [u8; 12]
-    requires { length s.now ≤ 12 }
-    ensures value { result ≡ s.now ++ replicate (12 - length s.now) 0 }
-{
-    let mut bytes = [0u8; 12];
-    for i in 0..s.len() {
-        bytes[i] = s[i];
-    }
-    bytes
+    let z: i64 = str::from_utf8(s).ok()?.parse().ok()?;
+    spells_number(s, z).then_some(z)
 }
 
 // The code that the bytes spell.
@@ -43,15 +29,13 @@ pub fn read_code(s: &[u8]) -> Option<Code>
     if s.len() > 12 {
         return None;
     }
+    let mut bytes = [0u8; 12];
+    bytes[..s.len()].copy_from_slice(s);
     let code = Code {
-        bytes: padded(s),
+        bytes,
         len: s.len() as u8,
     };
-    if Cell::Code(code).is_lawful() {
-        Some(code)
-    } else {
-        None
-    }
+    Cell::Code(code).is_lawful().then_some(code)
 }
 
 // The cell of this kind that the bytes spell, or else the one of the other kind.
@@ -59,19 +43,11 @@ pub fn read(kind: Kind, s: &[u8]) -> Option<Cell>
     ensures value { Exactly result (Wanted kind s.now) }
 {
     match kind {
-        Kind::Number => match read_number(s) {
-            Some(z) => Some(Cell::Number(z)),
-            None => match read_code(s) {
-                Some(other) => Some(Cell::Code(other)),
-                None => None,
-            },
-        },
-        Kind::Code => match read_code(s) {
-            Some(c) => Some(Cell::Code(c)),
-            None => match read_number(s) {
-                Some(other) => Some(Cell::Number(other)),
-                None => None,
-            },
-        },
+        Kind::Number => read_number(s)
+            .map(Cell::Number)
+            .or_else(|| read_code(s).map(Cell::Code)),
+        Kind::Code => read_code(s)
+            .map(Cell::Code)
+            .or_else(|| read_number(s).map(Cell::Number)),
     }
 }

@@ -3,13 +3,12 @@ ghost use Rattle.std.specs.Prelude.{◌≡◌, ◌≤◌, length};
 
 pub mod calls;
 
-// The bytes from place `from` up to `to`; the other places mean nothing.
-#[derive(Clone, Copy)]
+// The first `len` bytes; the places behind them mean nothing.
+// By hand: it is `Copy` and wants no memory, and the kit's `ArrayVec` is not `Copy`.
+#[derive(Clone, Copy, Debug)]
 pub struct Text {
     bytes: [u8; 20],
-    from: usize,
-    to: usize,
-    ghost ordered: { from ≤ to },
-    ghost within: { to ≤ 20 },
+    len: usize,
+    ghost within: { len ≤ 20 },
     ghost places: { length bytes ≡ 20 },
 }

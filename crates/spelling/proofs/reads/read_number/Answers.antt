@@ -1,52 +1,39 @@
-use Rattle.std.proofs.Common.{◌≡◌, ℕ, ◌-◌, ◌<◌, List, ◌∷◌, length, get_or, take, drop, pos, negsuc, ◌-ℤ◌, sym, refl, ap, ◌∙◌, subst, arith, w64, to_z, of_z}
-use Rattle.std.proofs.lemmas.Int.{ints}
-use Rattle.std.proofs.lemmas.Slice.{first_rest}
-use Rattle.basis.proofs.Exact.{exactly_some, exactly_none, none_of}
-use Rattle.spelling.proofs.Numerals.{SpellsNatural, spells_same}
-use Rattle.spelling.proofs.Signs.{SpellsNumber, number_same, minus_some, minus_none, plain_some}
+use Rattle.std.proofs.Common.{◌≡◌, ℤ, Some, None, sym, ap, ◌∙◌, subst, w64, to_z, of_z, rules}
+use Rattle.std.proofs.lemmas.Int.{to_z-of_z}
+use Rattle.std.specs.Result.{result_ok}
+use Rattle.std.specs.Str.{IsUtf8}
+use Rattle.basis.specs.Reading.{Exactly}
+use Rattle.basis.proofs.Exact.{exactly_if, exactly_none}
+use Rattle.spelling.proofs.Signs.{SpellsNumber, lawful_small, number_text, number_parsed}
 use Rattle.spelling.proofs.reads.read_number.Goals as goal
 
-minus : (s : List ℕ) → 0 < length s → get_or s 0 0 ≡ 45 → s ≡ 45 ∷ take (length s - 1) (drop 1 s)
-minus s some e = first_rest s 0 some ∙ ap (λ b. b ∷ take (length s - 1) (drop 1 s)) e
+none_some : (z : ℤ) → None ≡ Some z → ⊥
+none_some z e = cc
 
-pub overflow_cast-result : goal.overflow_cast-result
-overflow_cast-result c = omega (arith, ints, ((c.in-Some.ensures.value c.in-Some.n).0 refl).0)
+some_same : (y z : ℤ) → Some y ≡ Some z → y ≡ z
+some_same y z e = cc
 
-pub overflow_sub-result : goal.overflow_sub-result
-overflow_sub-result c = omega (arith, ints, ((c.in-Some.ensures.value c.in-Some.n).0 refl).0)
-
-pub overflow_cast-result-in-Some-read_natural : goal.overflow_cast-result-in-Some-read_natural
-overflow_cast-result-in-Some-read_natural c = omega (arith, ints, ((c.in-Some-read_natural.ensures.value c.in-Some-read_natural.n).0 refl).0)
-
-pub returns-then-n-eq0 : goal.returns-then-n-eq0
-returns-then-n-eq0 c =
+pub returns-in_err-ok : goal.returns-in_err-ok
+returns-in_err-ok c =
     let s = c.args.s.now in
-    let t = take (length s - 1) (drop 1 s) in
-    let p : SpellsNatural t c.in-Some.n = (c.in-Some.ensures.value c.in-Some.n).0 refl in
-    record { value = exactly_none (SpellsNumber s) (minus_none s t (minus s c.if-s-gt0.true c.if-s-eq45.true) (λ m q more. omega (arith, spells_same t c.in-Some.n m p q))) }
+    let bad : IsUtf8 s → ⊥ = search rules in
+    record { value = subst (λ r. Exactly r (SpellsNumber s)) (sym c.from_residual.ensures) (exactly_none (SpellsNumber s) (λ z p. bad (number_text s z p))) }
 
-pub returns-else-n-eq0 : goal.returns-else-n-eq0
-returns-else-n-eq0 c =
+pub returns-in_err-z : goal.returns-in_err-z
+returns-in_err-z c =
     let s = c.args.s.now in
-    let n = c.in-Some.n in
-    let t = take (length s - 1) (drop 1 s) in
-    let p : SpellsNatural t n = (c.in-Some.ensures.value n).0 refl in
-    let is : to_z w64 (of_z w64 (pos 0 -ℤ to_z w64 n)) ≡ negsuc (n - 1) = omega (arith, ints, p.0) in
-    let q : SpellsNumber s (to_z w64 (of_z w64 (pos 0 -ℤ to_z w64 n))) =
-    subst (SpellsNumber s) (sym is) (minus_some s t n (minus s c.if-s-gt0.true c.if-s-eq45.true) p (omega arith)) in
-    record { value = exactly_some (SpellsNumber s) _ q (λ z r. number_same s _ z q r) }
+    let text : c.in_ok-ok.field-0.now ≡ s = search rules in
+    let parsed = number_parsed s c.parse.result (rw text at c.parse.ensures.value.0) in
+    record { value = subst (λ r. Exactly r (SpellsNumber s)) (sym c.from_residual-in_err-z.ensures) (exactly_none (SpellsNumber s) (λ z p. none_some z (sym c.in_err-z.was ∙ c.ok-2.ensures.value ∙ ap result_ok (parsed z p)))) }
 
-pub returns-in-None : goal.returns-in-None
-returns-in-None c =
+pub returns : goal.returns
+returns c =
     let s = c.args.s.now in
-    let t = take (length s - 1) (drop 1 s) in
-    record { value = exactly_none (SpellsNumber s) (minus_none s t (minus s c.if-s-gt0.true c.if-s-eq45.true) (λ m q more. none_of (SpellsNatural t) c.in-None.ensures.value m q)) }
-
-pub returns-in-Some-read_natural : goal.returns-in-Some-read_natural
-returns-in-Some-read_natural c =
-    let s = c.args.s.now in
-    let n = c.in-Some-read_natural.n in
-    let p : SpellsNatural s n = (c.in-Some-read_natural.ensures.value n).0 refl in
-    let is : to_z w64 n ≡ pos n = omega (arith, ints, p.0) in
-    let q : SpellsNumber s (to_z w64 n) = subst (SpellsNumber s) (sym is) (plain_some s n p) in
-    record { value = exactly_some (SpellsNumber s) _ q (λ z r. number_same s _ z q r) }
+    let text : c.in_ok-ok.field-0.now ≡ s = search rules in
+    let parsed = number_parsed s c.parse.result (rw text at c.parse.ensures.value.0) in
+    record {
+      value = subst (λ r. Exactly r (SpellsNumber s)) (sym c.then_some.ensures)
+          (exactly_if (SpellsNumber s) _ c.spells_number.result c.spells_number.ensures.value (λ z p.
+          let same = some_same c.in_ok-z.z z (sym c.in_ok-z.was ∙ c.ok-2.ensures.value ∙ ap result_ok (parsed z p)) in
+          ap (λ y. to_z w64 (of_z w64 y)) same ∙ to_z-of_z w64 z (record { sfits = lawful_small s z p })));
+    }
