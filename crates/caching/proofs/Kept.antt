@@ -1,8 +1,8 @@
 -- Remembered answers stay right: when one is recalled, when one is noted, and after a build.
-use Rattle.std.proofs.Common.{◌≡◌, ℕ, zero, suc, ◌+◌, ◌<◌, Bool, true, false, cond, not, ◌&&◌, eqb, List, [], ◌∷◌, map, length, get_or, drop, replicate, set, is_some, Some, None, Option, sym, refl, ap, ◌∙◌, subst, arith}
-use Rattle.std.specs.List.{AllByRecursion}
+use Rattle.std.proofs.Common.{◌≡◌, ℕ, zero, suc, Bool, true, false, cond, not, ◌&&◌, eqb, List, [], ◌∷◌, map, replicate, set, is_some, Some, None, Option, sym, refl, ap, ◌∙◌, subst}
+use Rattle.std.specs.List.{AllByRecursion, find}
+use Rattle.std.specs.Option.{option_map, option_and_then}
 use Rattle.std.proofs.ByRecursion.{All-map, All-set, All-weaker}
-use Rattle.std.proofs.lemmas.List.{at_drop_more}
 use Rattle.std.proofs.lemmas.Bool.{and_parts, eqb-true, eq-eqb, both_ways}
 use Rattle.cells.specs.declared.rows.Row.{Row}
 use Rattle.keys.specs.Keys.{same_cell}
@@ -24,35 +24,25 @@ same_asked a b e =
     let k = (same_cell_decides a.question.key b.question.key).0 r.1 in
     λ i. record { table = t i; question = record { column = c i; key = k i; after = f i } }
 
--- a memory is looked through place by place
-module _ (q : Asked) (places : List (Option Remembered)) where
-  recalled_here : (x : Option Remembered) (a : Option ℕ) → Some a ≡ recalled (x ∷ []) q → recalled (x ∷ places) q ≡ Some a
-  recalled_here None a e = absurd (let z : ◌≡◌ {A = ℕ} 0 1 = cc in omega arith)
-  recalled_here (Some e) a h = go (same_question e.asked q) h
-    where
-      go : (b : Bool) → Some a ≡ cond b (Some e.answer) None → cond b (Some e.answer) (recalled places q) ≡ Some a
-      go true k = sym k
-      go false k = absurd (let z : ◌≡◌ {A = ℕ} 0 1 = cc in omega arith)
+-- does a place remember the question?
+abbrev pub remembers : Asked → Option Remembered → Bool
+remembers q place = is_some (recalled (place ∷ []) q)
 
-  recalled_on : (x : Option Remembered) → None ≡ recalled (x ∷ []) q → recalled (x ∷ places) q ≡ recalled places q
-  recalled_on None e = refl
-  recalled_on (Some e) h = go (same_question e.asked q) h
-    where
-      go : (b : Bool) → None ≡ cond b (Some e.answer) None → cond b (Some e.answer) (recalled places q) ≡ recalled places q
-      go true k = absurd (let z : ◌≡◌ {A = ℕ} 0 1 = cc in omega arith)
-      go false k = refl
-
-module _ (q : Asked) (places : List (Option Remembered)) (i : ℕ) (h : i < length places) where
-  pub recalled_at : (a : Option ℕ) → Some a ≡ recalled (get_or places i None ∷ []) q → recalled (drop i places) q ≡ Some a
-  recalled_at a e = at_drop_more (λ l. recalled l q) places i None h ∙ recalled_here q (drop (i + 1) places) (get_or places i None) a e
-
-  pub recalled_past : None ≡ recalled (get_or places i None ∷ []) q → recalled (drop i places) q ≡ recalled (drop (i + 1) places) q
-  recalled_past e = at_drop_more (λ l. recalled l q) places i None h ∙ recalled_on q (drop (i + 1) places) (get_or places i None) e
+-- what is recalled stands in the first place that remembers the question
+pub recalled_found : (places : List (Option Remembered)) (q : Asked) → recalled places q ≡ option_and_then (option_map (λ (e : Remembered). e.answer)) (find (remembers q) places)
+recalled_found [] q = refl
+recalled_found (None ∷ places) q = recalled_found places q
+recalled_found (Some e ∷ places) q = go (same_question e.asked q) (recalled_found places q)
+  where
+    go : (b : Bool) → recalled places q ≡ option_and_then (option_map (λ (x : Remembered). x.answer)) (find (remembers q) places)
+        → cond b (Some e.answer) (recalled places q) ≡ option_and_then (option_map (λ (x : Remembered). x.answer)) (cond (is_some (cond b (Some e.answer) None)) (Some (Some e)) (find (remembers q) places))
+    go true rest = refl
+    go false rest = rest
 
 module _ (ts : List Table) where
   -- an answer that is recalled is right
   pub recalled_right : (places : List (Option Remembered)) (q : Asked) (a : Option ℕ) → AllByRecursion (Right ts) places → recalled places q ≡ Some a → a ≡ right_answer ts q
-  recalled_right [] q a h e = absurd (let z : ◌≡◌ {A = ℕ} 0 1 = cc in omega arith)
+  recalled_right [] q a h e = absurd cc
   recalled_right (None ∷ places) q a h e = recalled_right places q a h.1 e
   recalled_right (Some x ∷ places) q a h e = go (same_question x.asked q) refl (recalled_right places q a h.1)
     where

@@ -17,22 +17,13 @@ pub struct Counting<S> {
     asked: [u64; 6],
 }
 
-fn count_in(asked: &[u64], table: usize) -> u64
-    ensures value { result ≡ slice_index asked.now table }
-{
-    if table >= asked.len() {
-        return 0;
-    }
-    asked[table]
-}
-
 fn count_one(asked: &mut [u64], table: usize)
     ensures after { asked.new ≡ one_more asked.old table }
 {
-    if table >= asked.len() {
-        return;
+    // By hand: tried get_mut, and the proof didn't close: behind its borrow the elements are not known.
+    if table < asked.len() {
+        asked[table] = asked[table].saturating_add(1);
     }
-    asked[table] = asked[table].saturating_add(1);
 }
 
 impl<S: Store> Counting<S> {
@@ -51,7 +42,7 @@ impl<S: Store> Counting<S> {
     pub fn asked(&self, table: usize) -> u64
         ensures value { result ≡ slice_index self.now.asked table }
     {
-        count_in(&self.asked, table)
+        self.asked.get(table).copied().unwrap_or(0)
     }
 }
 

@@ -2,6 +2,7 @@
 use Rattle.std.proofs.Common.{◌≡◌, ℕ, zero, suc, ◌+◌, ◌<◌, ◌≤◌, Bool, true, false, cond, ltb, ◌⊎◌, List, [], ◌∷◌, ◌++◌, length, set, Some, sym, refl, ap, ◌∙◌, subst, inl, inr, ⊎_elim, add-one, arith}
 use Rattle.std.proofs.lemmas.List.{get_or-set_same, get_or-set_other, get_or_past, length_push}
 use Rattle.std.proofs.lemmas.Bool.{cases_lt, cases_eq, both_ways}
+use Rattle.std.specs.List.{slice_get}
 use Rattle.basis.specs.Lists.{numbered}
 use Rattle.cells.specs.declared.types.Cell.{Cell}
 use Rattle.cells.specs.declared.rows.Row.{Row}
@@ -11,15 +12,16 @@ use Rattle.stores.proofs.Next.{next_append}
 -- elements at the end of a list leave the numbers of the others
 pub numbered-append : {X : Type 0} (xs ys : List X) (n : ℕ) → n ≤ length xs → numbered (xs ++ ys) n ≡ numbered xs n
 numbered-append xs ys zero le = refl
-numbered-append [] ys (suc i) le = absurd (let z : ⊥ = omega arith in z)
+numbered-append [] ys (suc i) le = absurd (omega arith)
 numbered-append (x ∷ xs) ys (suc zero) le = refl
 numbered-append (x ∷ xs) ys (suc (suc i)) le = numbered-append xs ys (suc i) (omega arith)
 
 pub numbered_push : {X : Type 0} (xs : List X) (y : X) → numbered (xs ++ y ∷ []) (length xs + 1) ≡ Some y
-numbered_push [] y = refl
-numbered_push (x ∷ xs) y =
-    let e : suc (length xs) + 1 ≡ suc (length xs + 1) = omega arith in
-    ap (numbered (x ∷ (xs ++ y ∷ []))) (e ∙ ap suc (add-one (length xs))) ∙ ap (numbered (xs ++ y ∷ [])) (sym (add-one (length xs))) ∙ numbered_push xs y
+numbered_push xs y = rw add-one (last xs)
+  where
+    last : {X : Type 0} {y : X} (xs : List X) → slice_get (xs ++ y ∷ []) (length xs) ≡ Some y
+    last [] = refl
+    last (x ∷ xs) = last xs
 
 module _ (ts : List Table) (t : ℕ) (row : Row) (stamp : ℕ) where
   -- what has room is one of the tables

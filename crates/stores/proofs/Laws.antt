@@ -6,7 +6,7 @@ use Rattle.cells.specs.declared.types.Cell.{Cell}
 use Rattle.keys.specs.CellOrder.{same_cell_decides}
 use Rattle.stores.specs.Tables.{Built, Table, table_at, count_at, cell_of, cell_at, is_cell, matches, next_row}
 use Rattle.stores.specs.Laws.{Least, NextLaws, StoreLaws}
-use Rattle.stores.proofs.Next.{some_not_none, Found, next_found, next_is, next_none}
+use Rattle.stores.proofs.Next.{Found, next_found, next_is, next_none}
 use Rattle.stores.proofs.Builds.{built_other, built_room, built_old, built-count, built_last, next_built}
 
 is_cell_true : (o : Option Cell) (key : Cell) → is_cell o key ≡ true → o ≡ Some key
@@ -28,7 +28,7 @@ module _ (ts : List Table) (t column : ℕ) (key : Cell) where
   has_key i d e =
       ⊎_elim
       (λ (lt : i < count_at ts t). (lt, sym (cell_here i d lt) ∙ true_is_cell (cell_at ts t (suc i) column) key e))
-      (λ ge. absurd (some_not_none key (sym e ∙ ap (λ o. cell_of o column) (slice_get_past (table_at ts t).rows i ge))))
+      (λ ge. let none : cell_at ts t (suc i) column ≡ None = ap (λ o. cell_of o column) (slice_get_past (table_at ts t).rows i ge) in absurd cc)
       (cases_lt i (count_at ts t))
 
   found-least : (after n : ℕ) → Found (matches column key) after (table_at ts t).rows n → Least ts t column key after n
@@ -47,7 +47,7 @@ module _ (ts : List Table) (t column : ℕ) (key : Cell) where
           both_ways (matches column key (get_or (table_at ts t).rows j no_row)) (f.before j no_row (omega arith) (omega arith)) (has_key j no_row e).1
 
   least-found : (after n : ℕ) → Least ts t column key after n → Found (matches column key) after (table_at ts t).rows n
-  least-found after zero h = absurd (let l = h.above in let z : ⊥ = omega arith in z)
+  least-found after zero h = absurd (omega (arith, h.above))
   least-found after (suc i) h =
       record {
         index = i;

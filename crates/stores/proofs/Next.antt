@@ -4,12 +4,9 @@ use Rattle.std.proofs.lemmas.List.{get_or_append_left, get_or-drop, drop-append-
 use Rattle.std.proofs.lemmas.Bool.{both_ways, cases_lt}
 use Rattle.stores.specs.Tables.{next_in, next_after}
 
-pub some_not_none : {X : Type 0} (x : X) → Some x ≡ None → ⊥
-some_not_none x e = let z : ◌≡◌ {A = ℕ} 0 1 = cc in omega arith
-
 -- a list with an element has one to read by
 first_of : {X : Type 0} (xs : List X) (i : ℕ) → i < length xs → X
-first_of [] i lt = absurd (let z : ⊥ = omega arith in z)
+first_of [] i lt = absurd (omega arith)
 first_of (x ∷ xs) i lt = x
 
 module _ {X : Type 0} (p : X → Bool) where
@@ -31,13 +28,13 @@ module _ {X : Type 0} (p : X → Bool) where
     before : (j : ℕ) (d : X) → j < index → p (get_or xs j d) ≡ false
 
   first : (n : ℕ) (xs : List X) (m : ℕ) → next_in p n xs ≡ Some m → First n xs m
-  first n [] m e = absurd (some_not_none m (sym e))
+  first n [] m e = absurd cc
   first n (x ∷ xs) m e = go (p x) refl (first (suc n) xs m) e
     where
       go : (b : Bool) → p x ≡ b → (next_in p (suc n) xs ≡ Some m → First (suc n) xs m) → cond b (Some (suc n)) (next_in p (suc n) xs) ≡ Some m → First n (x ∷ xs) m
       go true q more e =
           let same : suc n ≡ m = cc in
-          record { index = 0; is = omega arith; within = omega arith; passes = λ d. q; before = λ j d lt. absurd (let z : ⊥ = omega arith in z) }
+          record { index = 0; is = omega arith; within = omega arith; passes = λ d. q; before = λ j d lt. absurd (omega arith) }
       go false q more e =
           let f = more e in
           record {
@@ -53,7 +50,7 @@ module _ {X : Type 0} (p : X → Bool) where
           under i rest (suc j) d lt = rest j d (omega arith)
 
   is_first : (n : ℕ) (xs : List X) (i : ℕ) → i < length xs → ((d : X) → p (get_or xs i d) ≡ true) → ((j : ℕ) (d : X) → j < i → p (get_or xs j d) ≡ false) → next_in p n xs ≡ Some (suc (n + i))
-  is_first n [] i lt here before = absurd (let z : ⊥ = omega arith in z)
+  is_first n [] i lt here before = absurd (omega arith)
   is_first n (x ∷ xs) zero lt here before =
       let e : n ≡ n + 0 = omega arith in ap (λ b. cond b (Some (suc n)) (next_in p (suc n) xs)) (here x) ∙ ap (λ k. Some (suc k)) e
   is_first n (x ∷ xs) (suc i) lt here before =
@@ -62,11 +59,11 @@ module _ {X : Type 0} (p : X → Bool) where
       ∙ is_first (suc n) xs i (omega arith) here (λ j d l. before (suc j) d (omega arith)) ∙ ap (λ k. Some (suc k)) e
 
   in_none : (n : ℕ) (xs : List X) → next_in p n xs ≡ None → (i : ℕ) (d : X) → i < length xs → p (get_or xs i d) ≡ false
-  in_none n [] e i d lt = absurd (let z : ⊥ = omega arith in z)
+  in_none n [] e i d lt = absurd (omega arith)
   in_none n (x ∷ xs) e i d lt = go (p x) refl (in_none (suc n) xs) e i lt
     where
       go : (b : Bool) → p x ≡ b → (next_in p (suc n) xs ≡ None → (i : ℕ) (d : X) → i < length xs → p (get_or xs i d) ≡ false) → cond b (Some (suc n)) (next_in p (suc n) xs) ≡ None → (i : ℕ) → i < length (x ∷ xs) → p (get_or (x ∷ xs) i d) ≡ false
-      go true q more e i lt = absurd (some_not_none (suc n) e)
+      go true q more e i lt = absurd cc
       go false q more e zero lt = q
       go false q more e (suc i) lt = more e i d (omega arith)
 
@@ -163,5 +160,5 @@ module _ {X : Type 0} (p : X → Bool) where
         where
           step : (b : Bool) → p x ≡ b → cond b (Some (suc n)) (next_in p (suc n) zs) ≡ None → (next_in p (suc n) zs ≡ None → next_in p (suc n) (zs ++ y ∷ []) ≡ cond (p y) (Some (suc (suc n + length zs))) None)
               → cond b (Some (suc n)) (next_in p (suc n) (zs ++ y ∷ [])) ≡ cond (p y) (Some (suc (n + length (x ∷ zs)))) None
-          step true q h more = absurd (some_not_none (suc n) h)
+          step true q h more = absurd cc
           step false q h more = let z : suc n + length zs ≡ n + suc (length zs) = omega arith in more h ∙ ap (λ k. cond (p y) (Some (suc k)) None) z

@@ -1,22 +1,36 @@
 // The interface of a store: the rows built of each table, and the questions that an engine asks about them.
 #![tactic(auto)]
 
-ghost use Rattle.std.specs.Prelude.{◌≡◌, true, List, length, is_ok};
+ghost use Rattle.std.specs.Prelude.{◌≡◌, true, List, length, codes, is_ok, Some};
 ghost use Rattle.stores.specs.Tables.{Table, WithinRoom, count_at, stamp_at, cell_at, has_room, built, next_row};
 ghost use Rattle.stores.specs.Laws.{StoreLaws};
 
 use cells::rows::Row;
 use cells::types::Cell;
+use std::error::Error;
+use std::fmt;
 
 // Why a row is not built.
-#[derive(Clone, Copy)]
+#[derive(Clone, Copy, Debug, PartialEq, Eq)]
 pub enum BuildRefusal {
     // The table holds its capacity.
     Full,
 }
 
+impl fmt::Display for BuildRefusal {
+    ghost output = { λ _. Some (codes "the table is full") };
+
+    fn fmt<W: fmt::Write>(&self, f: &mut fmt::Formatter<W>) -> fmt::Result {
+        match self {
+            BuildRefusal::Full => write!(f, "the table is full"),
+        }
+    }
+}
+
+impl Error for BuildRefusal {}
+
 // What `next` is asked of a table.
-#[derive(Clone, Copy)]
+#[derive(Clone, Copy, Debug, PartialEq, Eq)]
 pub struct Question {
     pub column: usize,
     pub key: Cell,

@@ -47,11 +47,9 @@ impl<S: Store> Store for Cached<S> {
         ensures forgets { self.new.memory ≡ (if is_ok result then map (kept table) self.old.memory else self.old.memory) }
         ensures turn { self.new.turn ≡ self.old.turn }
     {
-        let result = self.inner.build(table, row, stamp);
-        if result.is_ok() {
-            forget(&mut self.memory, table);
-        }
-        result
+        self.inner.build(table, row, stamp)?;
+        self.memory = forget(self.memory, table);
+        Ok(())
     }
 
     fn count(&self, table: usize) -> usize {

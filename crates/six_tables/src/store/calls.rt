@@ -1,7 +1,7 @@
 // The calls of a store, passed on to the index of the table.
-ghost use Rattle.std.specs.Prelude.{◌≡◌, [], ◌∷◌};
+ghost use Rattle.std.specs.Prelude.{◌≡◌, ℕ, ◌<◌, [], ◌∷◌, IfOk, IfErr, Ok, Err};
 ghost use Rattle.stores.specs.Tables.{table_at, next_row};
-ghost use Rattle.six_tables.specs.Stores.{tables_of, table_in};
+ghost use Rattle.six_tables.specs.Stores.{tables_of, table_in, Made};
 ghost use Rattle.std.proofs.Common.{rules};
 
 use super::SixTables;
@@ -17,6 +17,18 @@ impl<T: Index> SixTables<T> {
         ensures value { tables_of T.Index.table result ≡ T.Index.table t0 ∷ T.Index.table t1 ∷ T.Index.table t2 ∷ T.Index.table t3 ∷ T.Index.table t4 ∷ T.Index.table t5 ∷ [] }
     {
         SixTables(t0, t1, t2, t3, t4, t5)
+    }
+
+    // The store of the tables that a function makes by their numbers; where one cannot be made, there is no store.
+    pub fn try_from_fn<E, F: Fn(usize) -> Result<T, E>>(make: F) -> Result<SixTables<T>, E>
+    where
+        T: Drop,
+        F: Drop,
+        requires { F.IsAlwaysCallable make }
+        ensures made { IfOk result (Made (λ table made. F.post make table (Ok made))) }
+        ensures refused { IfErr result (λ e. (table : ℕ) × (table < 6) × F.post make table (Err e)) }
+    {
+        Ok(SixTables(make(0)?, make(1)?, make(2)?, make(3)?, make(4)?, make(5)?))
     }
 
     // The index of a table, if there is one.
@@ -40,7 +52,7 @@ impl<T: Index> SixTables<T> {
         ensures cost { T.Index.costs (table_at (tables_of T.Index.table self.now) table).rows question.column question.key question.after result.visited }
     {
         match self.index(table) {
-            Some(x) => x.probe(question),
+            Some(index) => index.probe(question),
             None => Probed {
                 found: None,
                 visited: 0,
@@ -57,6 +69,7 @@ impl<T: Index> Store for SixTables<T> {
     ghost within_room = { Prim.search rules };
 
     fn build(&mut self, table: usize, row: Row, stamp: u64) -> Result<(), BuildRefusal> {
+        // By hand: a function that lends the index is no plainer, since it has these six arms again.
         match table {
             0 => self.0.build(row, stamp),
             1 => self.1.build(row, stamp),
@@ -69,24 +82,15 @@ impl<T: Index> Store for SixTables<T> {
     }
 
     fn count(&self, table: usize) -> usize {
-        match self.index(table) {
-            Some(x) => x.count(),
-            None => 0,
-        }
+        self.index(table).map_or(0, |index| index.count())
     }
 
     fn cell(&self, table: usize, row: usize, column: usize) -> Option<Cell> {
-        match self.index(table) {
-            Some(x) => x.cell(row, column),
-            None => None,
-        }
+        self.index(table)?.cell(row, column)
     }
 
     fn stamp(&self, table: usize, row: usize) -> Option<u64> {
-        match self.index(table) {
-            Some(x) => x.stamp(row),
-            None => None,
-        }
+        self.index(table)?.stamp(row)
     }
 
     fn next(&mut self, table: usize, question: Question) -> Option<usize> {
