@@ -2,7 +2,6 @@
 ghost use Rattle.std.specs.Prelude.{◌≡◌};
 ghost use Rattle.query.specs.declared.types.DraftError.TheVariants.{Refused, Memory};
 
-use cells::headings::Heading;
 use expressions::types::{Column, Item};
 use std::alloc::AllocError;
 
@@ -79,13 +78,4 @@ pub enum RowRefusal {
     NoSuchTable = 22,
     ColumnCount = 23,
     UnfitCell = 24,
-}
-
-// What a draft holds, lent.
-#[derive(Clone, Copy, Debug)]
-pub struct Parts<'a> {
-    pub headings: &'a [Heading],
-    pub joins: &'a [Join],
-    pub filters: &'a [Filter],
-    pub shown: &'a [Shown],
 }

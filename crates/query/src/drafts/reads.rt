@@ -9,7 +9,7 @@ ghost use Rattle.query.specs.Rows.{row_questions, row_refusal_number};
 
 use crate::drafts::Draft;
 use crate::rows::all_fit;
-use crate::types::{Filter, Join, Parts, RowRefusal, Shown};
+use crate::types::{Filter, Join, RowRefusal, Shown};
 use cells::headings::Heading;
 use cells::types::Cell;
 
@@ -49,23 +49,6 @@ impl Draft {
         ensures value { map projection result.now ≡ (query_of self.now).shown }
     {
         self.shown.as_slice()
-    }
-
-    // The tables' headings, the joins, the filters and the shown things, each in order. Its law is what every draft keeps to.
-    pub fn parts(&self) -> Parts<'_>
-        ensures headings { map columns result.headings.now ≡ (query_of self.now).headings }
-        ensures joins { result.joins.now ≡ (query_of self.now).joins }
-        ensures filters { map condition result.filters.now ≡ (query_of self.now).filters }
-        ensures shown { map projection result.shown.now ≡ (query_of self.now).shown }
-        ensures tables { length result.headings.now ≡ length (query_of self.now).headings }
-        ensures law { Lawful (query_of self.now) }
-    {
-        Parts {
-            headings: self.headings.as_slice(),
-            joins: self.joins.as_slice(),
-            filters: self.filters.as_slice(),
-            shown: self.shown.as_slice(),
-        }
     }
 
     // May these cells be a row of this table?
