@@ -1,8 +1,8 @@
 -- Whole lists of items: when they are well formed, and what value they have.
-use Rattle.std.proofs.Common.{◌≡◌, ℕ, ◌≤◌, Bool, true, false, cond, ◌&&◌, leb, List, [], ◌∷◌, length, drop, ℤ, is_some, Some, None, Decides, Option, sym, refl, ap, ◌∙◌, ⊎_elim, arith, length-drop}
+use Rattle.std.proofs.Common.{◌≡◌, ℕ, ◌≤◌, Bool, true, false, cond, ◌&&◌, eqb, leb, List, [], ◌∷◌, length, ℤ, is_some, Some, None, Decides, Option, sym, refl, ap, ◌∙◌, ⊎_elim, arith}
+use Rattle.std.specs.Bool.{then_some}
 use Rattle.std.specs.Option.{option_map}
-use Rattle.std.proofs.lemmas.List.{drop_all}
-use Rattle.std.proofs.lemmas.Bool.{and_from, and_parts, and_right, cases_Bool, cond-false, cond-true, leb-true, le-leb}
+use Rattle.std.proofs.lemmas.Bool.{and_from, and_parts, and_right, cases_Bool, cond-false, cond-true, leb-true, le-leb, ne_eqb}
 use Rattle.expressions.specs.Evaluations.{Found, NotFound}
 use Rattle.expressions.specs.Expressions.{Expr, nested, lawful_numbers, Within, WellFormed, forest, only, tree_of, within_limits, well_formed, worth, value_of}
 use Rattle.expressions.specs.Readings.{Reading}
@@ -46,24 +46,22 @@ value_some e items = go (leb (length items) 31) (tree_of items)
 no_value : (e : Reading) (items : List Item) → well_formed items ≡ false → None ≡ value_of e items
 no_value e items h = sym (cond-false (well_formed items) (option_map (worth e) (tree_of items)) None h)
 
-pub no_tree : (e : Reading) (items : List Item) → NotFound items 0 6 → None ≡ value_of e items
+pub no_tree : (e : Reading) (items : List Item) → NotFound items 6 → None ≡ value_of e items
 no_tree e items none = no_value e items (and_right (leb (length items) 31) (within_limits (tree_of items)) (go (tree_of items) refl))
   where
     go : (o : Option Expr) → tree_of items ≡ o → within_limits o ≡ false
     go None t = refl
     go (Some x) t = ⊎_elim (λ h. absurd (none x [] (only_one (forest items) x t) ((within_decides x).0 h))) (λ h. h) (cases_Bool (within_limits (Some x)))
 
-module _ (e : Reading) (items : List Item) (end : ℕ) (v : ℤ) (p : Found e items 0 6 end v) where
-  pub whole_tree : length items ≤ 31 → end ≡ length items → Some v ≡ value_of e items
-  whole_tree short whole =
-      let none : drop end items ≡ [] = drop_all end items (omega arith) in
-      let t : tree_of items ≡ Some p.tree = ap only (p.split ∙ ap (λ l. option_map (λ rest. p.tree ∷ rest) (forest l)) none) in
-      ap Some p.value ∙ sym (cond-true (well_formed items) (option_map (worth e) (tree_of items)) None (formed_by items p.tree t short p.within) ∙ ap (option_map (worth e)) t)
-
-  pub more_items : (end ≡ length items → ⊥) → None ≡ value_of e items
-  more_items more = no_value e items (and_right (leb (length items) 31) (within_limits (tree_of items)) (ap within_limits (ap only p.split ∙ go (forest (drop end items)) refl)))
-    where
-      go : (o : Option (List Expr)) → forest (drop end items) ≡ o → only (option_map (λ rest. p.tree ∷ rest) o) ≡ None
-      go None f = refl
-      go (Some []) f = absurd (more (omega (arith, p.inside, length-drop end items, ap length (forest_empty (drop end items) f))))
-      go (Some (x ∷ rest)) f = refl
+pub whole_value : (e : Reading) (items rest : List Item) (v : ℤ) → Found e items 6 rest v → length items ≤ 31 → then_some (eqb (length rest) 0) v ≡ value_of e items
+whole_value e items [] v p short =
+    let t : tree_of items ≡ Some p.tree = ap only p.split in
+    ap Some p.value ∙ sym (cond-true (well_formed items) (option_map (worth e) (tree_of items)) None (formed_by items p.tree t short p.within) ∙ ap (option_map (worth e)) t)
+whole_value e items (i ∷ more) v p short =
+    ap (λ b. then_some b v) (ne_eqb (length (i ∷ more)) 0 (λ l. let z : ⊥ = omega arith in z))
+    ∙ no_value e items (and_right (leb (length items) 31) (within_limits (tree_of items)) (ap within_limits (ap only p.split ∙ go (forest (i ∷ more)) refl)))
+  where
+    go : (o : Option (List Expr)) → forest (i ∷ more) ≡ o → only (option_map (λ ts. p.tree ∷ ts) o) ≡ None
+    go None f = refl
+    go (Some []) f = absurd (let z : ⊥ = omega (arith, ap length (forest_empty (i ∷ more) f)) in z)
+    go (Some (x ∷ xs)) f = refl

@@ -20,13 +20,10 @@ const DEEPEST: u8 = 6;
 pub fn cell_at(cells: &[[Cell; 6]; 6], column: Column) -> Cell
     ensures value { result ≡ cells_read cells.now column.table column.column }
 {
-    if column.table >= 6 {
-        return Cell::Number(0);
-    }
-    match basis::numbered(&cells[column.table], column.column) {
-        Some(cell) => cell,
-        None => Cell::Number(0),
-    }
+    cells
+        .get(column.table)
+        .and_then(|row| basis::numbered(row, column.column))
+        .unwrap_or(Cell::Number(0))
 }
 
 // The value of the expression that the items are, over these cells; None if they are not well formed.
@@ -36,12 +33,8 @@ pub fn value(items: &[Item], cells: &[[Cell; 6]; 6]) -> Option<i64>
     if items.len() > MOST_ITEMS {
         return None;
     }
-    let (value, end) = evaluation::eval(items, 0, DEEPEST, cells)?;
-    if end == items.len() {
-        Some(value)
-    } else {
-        None
-    }
+    let (value, rest) = evaluation::eval(items, DEEPEST, cells)?;
+    rest.is_empty().then_some(value)
 }
 
 // Are the items an expression within the limits? They are if they have a value, whatever the cells.
