@@ -1,7 +1,7 @@
 -- A new row, filed in the column of one cell after the other.
-use Rattle.std.proofs.Common.{◌≡◌, ℕ, ◌+◌, ◌-◌, ◌<◌, ◌≤◌, List, [], ◌∷◌, ◌++◌, length, get_or, take, min, Some, replicate, sym, refl, ap, ◌∙◌, subst, ⊎_elim, arith}
+use Rattle.std.proofs.Common.{◌≡◌, ℕ, ◌+◌, ◌-◌, ◌<◌, ◌≤◌, true, List, [], ◌∷◌, ◌++◌, length, get_or, take, min, Some, replicate, sym, refl, ap, ◌∙◌, subst, ⊎_elim, arith}
 use Rattle.std.proofs.lemmas.List.{map-append, length_push, get_or_append_left, get_or_push, get_or_past, get_or-replicate}
-use Rattle.std.proofs.lemmas.Bool.{cases_eq, cases_lt}
+use Rattle.std.proofs.lemmas.Bool.{cases_eq, cases_lt, eq-eqb}
 use Rattle.std.proofs.lemmas.Grind.{common_steps}
 use Rattle.basis.specs.Lists.{numbered}
 use Rattle.basis.proofs.Counted.{numbered_past}
@@ -9,7 +9,7 @@ use Rattle.cells.specs.declared.types.Cell.{Cell}
 use Rattle.stores.specs.Tables.{Built}
 use Rattle.hash_store.specs.declared.place.Ends.{Ends}
 use Rattle.hash_store.specs.declared.place.Place.{Place}
-use Rattle.hash_store.specs.Buckets.{is_filed}
+use Rattle.hash_store.specs.Buckets.{cell_bucket, is_filed, in_bucket}
 use Rattle.hash_store.specs.Chains.{no_place, row_in, rows_in, IsColumn, Chained, AllChained}
 use Rattle.hash_store.specs.Rows.{length_rows}
 use Rattle.hash_store.specs.Placing.{chained_same, chained_none}
@@ -24,14 +24,14 @@ module _ (ps₀ : List Place) (cells : List Cell) where
   -- one column more
   pub filed_more : (ps qs : List Place) (ends ends' : List Ends) (c : ℕ) (x : Cell) → numbered cells (c + 1) ≡ Some x
       → PartFiled ps ends c → rows_in qs ≡ rows_in ps
-      → ((r : Built) → numbered r.cells (c + 1) ≡ Some x → Chained (rows_in ps ++ r ∷ []) qs ends' (c + 1))
+      → ((r : Built) → in_bucket (c + 1) (cell_bucket x) r ≡ true → Chained (rows_in ps ++ r ∷ []) qs ends' (c + 1))
       → ((rows : List Built) (d : ℕ) → IsColumn d → (d ≡ c + 1 → ⊥) → Chained rows ps ends d → Chained rows qs ends' d)
       → PartFiled qs ends' (c + 1)
   filed_more ps qs ends ends' c x cell f rows here others = record {
     rows = rows ∙ f.rows;
     done = λ r is d in_range le. ⊎_elim
         (λ (e : d ≡ c + 1). subst (λ k. Chained (rows_in ps₀ ++ r ∷ []) qs ends' k) (sym e)
-        (subst (λ (rs : List Built). Chained (rs ++ r ∷ []) qs ends' (c + 1)) f.rows (here r (ap (λ cs. numbered cs (c + 1)) is ∙ cell))))
+        (subst (λ (rs : List Built). Chained (rs ++ r ∷ []) qs ends' (c + 1)) f.rows (here r (ap (λ o. is_filed o (cell_bucket x)) (ap (λ cs. numbered cs (c + 1)) is ∙ cell) ∙ eq-eqb (cell_bucket x) (cell_bucket x) refl))))
         (λ ne. others (rows_in ps₀ ++ r ∷ []) d in_range ne (f.done r is d in_range (omega arith)))
         (cases_eq d (c + 1));
     left = λ d in_range lt. others (rows_in ps₀) d in_range (λ e. omega arith) (f.left d in_range (omega arith));

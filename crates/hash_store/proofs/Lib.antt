@@ -1,3 +1,4 @@
 mod Adding
 mod Draining
 mod Looking
+mod Walking

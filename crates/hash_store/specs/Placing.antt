@@ -32,8 +32,8 @@ chained_same rows ps qs ends ends' d es ls (h, l, t) = (
 )
 
 -- ends that are set, seen from another column
-pub ends_other : (ends : List Ends) (c a : ℕ) (v : Ends) (d : ℕ) → 0 < c → a < 64 → 0 < d → (d ≢ c) → (b : ℕ) → b < 64 → get_or (set ends (slot c a) v) (slot d b) no_ends ≡ get_or ends (slot d b) no_ends
-ends_other ends c a v d pc la pd ne b lb = get_or-set_other ends (slot c a) (slot d b) v no_ends (λ e. ne (slot_apart d c b a pd pc lb la e).0)
+pub ends_other : (ends : List Ends) (at c a : ℕ) (v : Ends) (d : ℕ) → at ≡ slot c a → 0 < c → a < 64 → 0 < d → (d ≢ c) → (b : ℕ) → b < 64 → get_or (set ends at v) (slot d b) no_ends ≡ get_or ends (slot d b) no_ends
+ends_other ends at c a v d there pc la pd ne b lb = get_or-set_other ends at (slot d b) v no_ends (λ e. ne (slot_apart d c b a pd pc lb la (e ∙ there)).0)
 
 -- a place that is relinked, seen from another place or another column
 pub link_elsewhere : (ps : List Place) (j c v d i : ℕ) → (i ≢ j) → link_in (set ps j (relinked (get_or ps j no_place) c v)) d i ≡ link_in ps d i
@@ -62,10 +62,6 @@ module _ (rows : List Built) (ps : List Place) (ends : List Ends) (column : ℕ)
   long : length rows ≡ length ps
   long = ap length same ∙ length_rows ps
 
-  -- the last row of a bucket is kept
-  pub tail_kept : (b : ℕ) → b < 64 → (tail_in ends column b ≢ 0) → tail_in ends column b - 1 < length ps
-  tail_kept b small some = let low = (old.2 b small).1 in let l = long in omega arith
-
   -- the row has no cell in the column
   pub chained_none : ((b : ℕ) → in_bucket column b r ≡ false) → Chained (rows ++ r ∷ []) ps ends column
   chained_none none = (
@@ -74,65 +70,79 @@ module _ (rows : List Built) (ps : List Place) (ends : List Ends) (column : ℕ)
     tails_none rows r column (head_in ends column) (tail_in ends column) (link_in ps column) old.0 old.1 old.2 none,
   )
 
-  module _ (b : ℕ) (small : b < 64) (here : in_bucket column b r ≡ true) (ends-long : length ends ≡ 384) where
-    set_here : (v : Ends) → get_or (set ends (slot column b) v) (slot column b) no_ends ≡ v
-    set_here v = let within = slot_within column b most pos small in get_or-set_same ends (slot column b) v no_ends (omega arith)
+  -- a chain that the row is in, whose ends stand at `at`
+  module _ (b at : ℕ) (there : at ≡ slot column b) (small : b < 64) where
+    ends_are : get_or ends at no_ends ≡ get_or ends (slot column b) no_ends
+    ends_are = ap (λ k. get_or ends k no_ends) there
 
-    set_other : (v : Ends) (a : ℕ) → a < 64 → (a ≢ b) → get_or (set ends (slot column b) v) (slot column a) no_ends ≡ get_or ends (slot column a) no_ends
-    set_other v a la ne = get_or-set_other ends (slot column b) (slot column a) v no_ends (λ e. ne (slot_apart column column a b pos pos la small e).1)
+    tail_is : (get_or ends at no_ends).tail ≡ tail_in ends column b
+    tail_is = ap (λ (e : Ends). e.tail) ends_are
 
-    more : (qs : List Place) (ends' : List Ends)
-        → Filed rows r column (head_in ends column) (tail_in ends column) (link_in ps column) old.0 old.1 old.2 b (head_in ends' column) (tail_in ends' column) (link_in qs column)
-        → Chained (rows ++ r ∷ []) qs ends' column
-    more qs ends' f = (
-      heads_more rows r column (head_in ends column) (tail_in ends column) (link_in ps column) old.0 old.1 old.2 b (head_in ends' column) (tail_in ends' column) (link_in qs column) f,
-      links_more rows r column (head_in ends column) (tail_in ends column) (link_in ps column) old.0 old.1 old.2 b (head_in ends' column) (tail_in ends' column) (link_in qs column) f,
-      tails_more rows r column (head_in ends column) (tail_in ends column) (link_in ps column) old.0 old.1 old.2 b (head_in ends' column) (tail_in ends' column) (link_in qs column) f,
-    )
+    pub tail_kept : ((get_or ends at no_ends).tail ≢ 0) → (get_or ends at no_ends).tail - 1 < length ps
+    tail_kept some = let low = (old.2 b small).1 in let l = long in let e = tail_is in omega arith
 
-    -- the first of its bucket
-    pub chained_first : tail_in ends column b ≡ 0 → Chained (rows ++ r ∷ []) ps (set ends (slot column b) (record { head = length ps + 1; tail = length ps + 1 })) column
-    chained_first z =
-        let v : Ends = record { head = length ps + 1; tail = length ps + 1 } in
-        let number : length ps + 1 ≡ suc (length rows) = (let l = long in omega arith) in
-        more ps (set ends (slot column b) v) (record {
-          small = small;
-          here = here;
-          head_same = λ a la h. ap (λ (e : Ends). e.head) (set_other v a la (λ e. let k = h e in omega arith));
-          head_new = λ e. ap (λ (e : Ends). e.head) (set_here v) ∙ number;
-          tail_same = λ a la ne. ap (λ (e : Ends). e.tail) (set_other v a la ne);
-          tail_new = ap (λ (e : Ends). e.tail) (set_here v) ∙ number;
-          link_same = λ i lt ne. refl;
-          link_new = λ p. absurd (let w : ⊥ = omega arith in w);
-          link_last = ap (link_in ps column) long ∙ no_link ps column;
-        })
+    module _ (here : in_bucket column b r ≡ true) (ends-long : length ends ≡ 384) where
+      set_here : (v : Ends) → get_or (set ends at v) (slot column b) no_ends ≡ v
+      set_here v = let within = slot_within column b most pos small in ap (λ k. get_or (set ends at v) k no_ends) (sym there) ∙ get_or-set_same ends at v no_ends (omega arith)
 
-    -- behind the last of its bucket
-    pub chained_last : length (get_or ps (tail_in ends column b - 1) no_place).links ≡ 6 → (tail_in ends column b ≢ 0)
-        → Chained (rows ++ r ∷ []) (set ps (tail_in ends column b - 1) (relinked (get_or ps (tail_in ends column b - 1) no_place) column (length ps + 1))) (set ends (slot column b) (record { head = head_in ends column b; tail = length ps + 1 })) column
-    chained_last six ne =
-        let last = tail_in ends column b in
-        let j = last - 1 in
-        let low : last ≤ length rows = (old.2 b small).1 in
-        let l = long in
-        let v = length ps + 1 in
-        let w : Ends = record { head = head_in ends column b; tail = v } in
-        let number : v ≡ suc (length rows) = omega arith in
-        let inside : j < length ps = omega arith in
-        let qs = set ps j (relinked (get_or ps j no_place) column v) in
-        more qs (set ends (slot column b) w) (record {
-          small = small;
-          here = here;
-          head_same = λ a la h. ⊎_elim
-              (λ (e : a ≡ b). subst (λ k. head_in (set ends (slot column b) w) column k ≡ head_in ends column k) (sym e) (ap (λ (e : Ends). e.head) (set_here w)))
-              (λ off. ap (λ (e : Ends). e.head) (set_other w a la off))
-              (cases_eq a b);
-          head_new = λ e. absurd (ne e);
-          tail_same = λ a la off. ap (λ (e : Ends). e.tail) (set_other w a la off);
-          tail_new = ap (λ (e : Ends). e.tail) (set_here w) ∙ number;
-          link_same = λ i lt off. link_elsewhere ps j column v column i (λ e. off (omega arith));
-          link_new = λ p.
-              ap (λ (q : Place). slice_index q.links (column - 1)) (get_or-set_same ps j (relinked (get_or ps j no_place) column v) no_place inside)
-              ∙ get_or-set_same (get_or ps j no_place).links (column - 1) v 0 (omega arith) ∙ number;
-          link_last = ap (link_in qs column) long ∙ link_elsewhere ps j column v column (length ps) (λ e. omega arith) ∙ no_link ps column;
-        })
+      set_other : (v : Ends) (a : ℕ) → a < 64 → (a ≢ b) → get_or (set ends at v) (slot column a) no_ends ≡ get_or ends (slot column a) no_ends
+      set_other v a la ne = get_or-set_other ends at (slot column a) v no_ends (λ e. ne (slot_apart column column a b pos pos la small (e ∙ there)).1)
+
+      more : (qs : List Place) (ends' : List Ends)
+          → Filed rows r column (head_in ends column) (tail_in ends column) (link_in ps column) old.0 old.1 old.2 b (head_in ends' column) (tail_in ends' column) (link_in qs column)
+          → Chained (rows ++ r ∷ []) qs ends' column
+      more qs ends' f = (
+        heads_more rows r column (head_in ends column) (tail_in ends column) (link_in ps column) old.0 old.1 old.2 b (head_in ends' column) (tail_in ends' column) (link_in qs column) f,
+        links_more rows r column (head_in ends column) (tail_in ends column) (link_in ps column) old.0 old.1 old.2 b (head_in ends' column) (tail_in ends' column) (link_in qs column) f,
+        tails_more rows r column (head_in ends column) (tail_in ends column) (link_in ps column) old.0 old.1 old.2 b (head_in ends' column) (tail_in ends' column) (link_in qs column) f,
+      )
+
+      -- the first of its bucket
+      pub chained_first : (get_or ends at no_ends).tail ≡ 0 → Chained (rows ++ r ∷ []) ps (set ends at (record { head = length ps + 1; tail = length ps + 1 })) column
+      chained_first z =
+          let v : Ends = record { head = length ps + 1; tail = length ps + 1 } in
+          let none : tail_in ends column b ≡ 0 = sym tail_is ∙ z in
+          let number : length ps + 1 ≡ suc (length rows) = (let l = long in omega arith) in
+          more ps (set ends at v) (record {
+            small = small;
+            here = here;
+            head_same = λ a la h. ap (λ (e : Ends). e.head) (set_other v a la (λ e. let k = h e in omega arith));
+            head_new = λ e. ap (λ (e : Ends). e.head) (set_here v) ∙ number;
+            tail_same = λ a la ne. ap (λ (e : Ends). e.tail) (set_other v a la ne);
+            tail_new = ap (λ (e : Ends). e.tail) (set_here v) ∙ number;
+            link_same = λ i lt ne. refl;
+            link_new = λ p. absurd (let w : ⊥ = omega arith in w);
+            link_last = ap (link_in ps column) long ∙ no_link ps column;
+          })
+
+      -- behind the last of its bucket
+      pub chained_last : length (get_or ps ((get_or ends at no_ends).tail - 1) no_place).links ≡ 6 → ((get_or ends at no_ends).tail ≢ 0)
+          → Chained (rows ++ r ∷ []) (set ps ((get_or ends at no_ends).tail - 1) (relinked (get_or ps ((get_or ends at no_ends).tail - 1) no_place) column (length ps + 1))) (set ends at (record { head = (get_or ends at no_ends).head; tail = length ps + 1 })) column
+      chained_last six ne =
+          let j = (get_or ends at no_ends).tail - 1 in
+          let is = tail_is in
+          let back : tail_in ends column b - 1 ≡ j = ap (λ t. t - 1) (sym is) in
+          let low : tail_in ends column b ≤ length rows = (old.2 b small).1 in
+          let l = long in
+          let v = length ps + 1 in
+          let w : Ends = record { head = (get_or ends at no_ends).head; tail = v } in
+          let number : v ≡ suc (length rows) = omega arith in
+          let inside : j < length ps = tail_kept ne in
+          let qs = set ps j (relinked (get_or ps j no_place) column v) in
+          more qs (set ends at w) (record {
+            small = small;
+            here = here;
+            head_same = λ a la h. ⊎_elim
+                (λ (e : a ≡ b). subst (λ k. head_in (set ends at w) column k ≡ head_in ends column k) (sym e) (ap (λ (e : Ends). e.head) (set_here w) ∙ ap (λ (e : Ends). e.head) ends_are))
+                (λ off. ap (λ (e : Ends). e.head) (set_other w a la off))
+                (cases_eq a b);
+            head_new = λ e. absurd (ne (is ∙ e));
+            tail_same = λ a la off. ap (λ (e : Ends). e.tail) (set_other w a la off);
+            tail_new = ap (λ (e : Ends). e.tail) (set_here w) ∙ number;
+            link_same = λ i lt off. link_elsewhere ps j column v column i (λ e. off (omega arith));
+            link_new = λ p.
+                ap (link_in qs column) back
+                ∙ ap (λ (q : Place). slice_index q.links (column - 1)) (get_or-set_same ps j (relinked (get_or ps j no_place) column v) no_place inside)
+                ∙ get_or-set_same (get_or ps j no_place).links (column - 1) v 0 (omega arith) ∙ number;
+            link_last = ap (link_in qs column) long ∙ link_elsewhere ps j column v column (length ps) (λ e. omega arith) ∙ no_link ps column;
+          })

@@ -5,7 +5,7 @@ ghost use Rattle.hash_store.specs.Chains.{rows_in, AllChained, AllNarrow};
 use crate::place::{Ends, Place};
 
 pub mod calls;
-pub(crate) mod walks;
+mod walks;
 
 // The places hold the rows, in building order, and grow within what the caller handed in. For each column and bucket, `ends` has
 // the oldest row and the newest; the rows between are linked in the places.

@@ -2,5 +2,6 @@
 #![tactic(auto)]
 
 mod adds;
+mod chain;
 pub mod index;
 pub mod place;

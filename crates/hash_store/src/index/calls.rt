@@ -10,6 +10,7 @@ ghost use Rattle.hash_store.specs.Answering.{empty_visits};
 
 use super::TableIndex;
 use crate::adds::file_row;
+use crate::chain::Chain;
 use crate::place::{Ends, Place};
 use basis::{Probed, numbered};
 use cells::rows::Row;
@@ -88,6 +89,10 @@ impl Index for TableIndex {
                 visited: 0,
             };
         }
-        self.seek(column, key, after)
+        let chain = Chain::of(column, &key);
+        match key {
+            Cell::Number(z) => self.walk(chain, z, after),
+            Cell::Code(c) => self.walk(chain, c, after),
+        }
     }
 }

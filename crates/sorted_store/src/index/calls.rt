@@ -67,6 +67,7 @@ impl Index for TableIndex {
         self.places.len()
     }
 
+    #[tactic(auto, using(crate::specs::Indexed::numbered_row))]
     fn cell(&self, row: usize, column: usize) -> Option<Cell> {
         numbered(&self.places, row)?.row.cell(column)
     }

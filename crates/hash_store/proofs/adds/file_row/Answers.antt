@@ -1,9 +1,10 @@
-use Rattle.std.proofs.Common.{◌≡◌, ◌+◌, ◌≤◌, add-one, length, take, List, refl, sym, subst, slice_get, ap, ◌∙◌, arith, rules}
+use Rattle.std.proofs.Common.{◌≡◌, ℕ, ◌+◌, [], ◌∷◌, ◌++◌, ◌≤◌, add-one, length, take, List, refl, sym, subst, slice_get, ap, ◌∙◌, arith, rules}
 use Rattle.std.proofs.lemmas.Option.{slice_get-get_or}
 use Rattle.basis.specs.Lists.{numbered}
 use Rattle.stores.specs.Tables.{Built}
 use Rattle.cells.specs.Rows.{cells_of}
-use Rattle.hash_store.specs.Chains.{Chained}
+use Rattle.hash_store.specs.Buckets.{in_bucket}
+use Rattle.hash_store.specs.Chains.{rows_in, Chained}
 use Rattle.hash_store.proofs.Adding.{held, filed_more, filed_all}
 use Rattle.hash_store.proofs.adds.file_row.Goals as goal
 
@@ -14,10 +15,11 @@ loop-c-init c = record {
   left = λ d in_range lt. c.requires.chained d in_range;
 }
 
-pub file_cell-requires-clause-chained : goal.file_cell-requires-clause-chained
-file_cell-requires-clause-chained c =
-    subst (λ (rows : List Built). Chained rows c.loop-c.places c.loop-c.ends (c.loop-c.c + 1)) (sym c.loop-c.invariant.rows)
-    (c.loop-c.invariant.left (c.loop-c.c + 1) (omega arith, search rules) (omega arith))
+pub chain_row-requires-clause-chained : goal.chain_row-requires-clause-chained
+chain_row-requires-clause-chained c =
+    subst (λ (d : ℕ). Chained (rows_in c.loop-c.places) c.loop-c.places c.loop-c.ends d) (sym c.of.ensures.column)
+    (subst (λ (rows : List Built). Chained rows c.loop-c.places c.loop-c.ends (c.loop-c.c + 1)) (sym c.loop-c.invariant.rows)
+    (c.loop-c.invariant.left (c.loop-c.c + 1) (omega arith, search rules) (omega arith)))
 
 pub loop-c-preserved : goal.loop-c-preserved
 loop-c-preserved c =
@@ -25,10 +27,14 @@ loop-c-preserved c =
     let i = c.loop-c.c in
     let cells : length row.cells ≡ 6 = search rules in
     let same : take c.min.result row.cells ≡ cells_of row = ap (λ m. take m row.cells) c.min.ensures ∙ held row.cells row.len cells in
-    let e = c.file_cell.ensures in
-    filed_more c.args.places.now (cells_of row) c.loop-c.places c.file_cell.new.places c.loop-c.ends c.file_cell.new.ends i _
+    let e = c.chain_row.ensures in
+    let column = c.of.ensures.column in
+    filed_more c.args.places.now (cells_of row) c.loop-c.places c.chain_row.new.places c.loop-c.ends c.chain_row.new.ends i _
     (ap (numbered (cells_of row)) (add-one i) ∙ ap (λ l. slice_get l i) (sym same) ∙ slice_get-get_or (take c.min.result row.cells) i _ c.loop-c-test.true)
-    c.loop-c.invariant e.rows e.filed e.others
+    c.loop-c.invariant e.rows
+    (λ r here. subst (Chained (rows_in c.loop-c.places ++ r ∷ []) c.chain_row.new.places c.chain_row.new.ends) column
+    (e.filed r ((λ k. in_bucket (column k) (c.of.ensures.bucket k) r) ∙ here)))
+    (λ rows d is ne. e.others rows d is (λ same. ne (same ∙ column)))
 
 pub returns-clause-filed : goal.returns-clause-filed
 returns-clause-filed c =
