@@ -3,18 +3,24 @@
 
 mod day;
 mod draws;
-mod memory;
 mod overtime;
 mod probes;
 mod through;
 
+use caching::cache::Cached;
 use cells::rows::Row;
 use cells::types::Cell;
+use counting::Counting;
 use day::DAY;
 use faults::Fault;
 use query::drafts::Draft;
+use six_tables::store::SixTables;
 use std::alloc::{AllocError, Global};
 use std::io::Write;
+use through::Answered;
+
+// Places for each table of a small day.
+const PLACES: usize = 64;
 
 // The cells that the words spell, each read for its column's kind; None if a word spells no cell.
 fn read_cells(
@@ -25,13 +31,11 @@ fn read_cells(
 ) -> Result<Option<Vec<Cell>>, AllocError> {
     let mut cells = Vec::new(heap);
     for word in words.split(' ') {
-        match spelling::read(
-            overtime::kind_of(draft, table, cells.len()),
-            word.as_bytes(),
-        ) {
-            Some(cell) => cells.push(cell)?,
-            None => return Ok(None),
-        }
+        let kind = overtime::kind_of(draft, table, cells.len());
+        let Some(cell) = spelling::read(kind, word.as_bytes()) else {
+            return Ok(None);
+        };
+        cells.push(cell)?;
     }
     Ok(Some(cells))
 }
@@ -51,11 +55,9 @@ fn take_row(
     };
     match draft.accepts(table, &cells) {
         Ok(()) => {
-            if let Some(row) = Row::of(&cells) {
-                if table < tables.len() {
-                    tables[table].push(row)?;
-                    println!(rt; "{name} {words}: accepted")?;
-                }
+            if let (Some(row), Some(rows)) = (Row::of(&cells), tables.get_mut(table)) {
+                rows.push(row)?;
+                println!(rt; "{name} {words}: accepted")?;
             }
         }
         Err(refusal) => println!(rt; "{name} {words}: {refusal}")?,
@@ -70,43 +72,37 @@ fn run(rt: &HostRuntime) -> Result<(), Fault> {
     tables.push(Vec::new(heap))?;
     tables.push(Vec::new(heap))?;
     println!(rt; "Punches of more than 480 minutes, with their crews.")?;
-    for entry in DAY.iter() {
-        take_row(rt, &draft, &mut tables, entry.table, entry.words)?;
+    for (table, words) in DAY {
+        take_row(rt, &draft, &mut tables, table, words)?;
     }
     println!(rt; "The pay lines, by nested loops:")?;
     let lines = nested_loops::answer(heap, &draft, &tables)?;
     rt.stdout().write_all(&lines)?;
-    show_stores(rt, &draft, &tables, &lines)?;
+    show_stores(
+        rt,
+        Answered {
+            draft: &draft,
+            tables: &tables,
+            lines: &lines,
+        },
+    )?;
     draws::show(rt, 1)
 }
 
-fn show_stores(
-    rt: &HostRuntime,
-    draft: &Draft,
-    tables: &[Vec<Row>],
-    lines: &[u8],
-) -> Result<(), Fault> {
+// What a cache remembers, the store below is not asked.
+fn show_stores(rt: &HostRuntime, day: Answered<'_>) -> Result<(), Fault> {
     let heap = rt.alloc();
+    let hash = |_| hash_store::index::TableIndex::with_room(heap, PLACES);
+    let sorted = |_| sorted_store::index::TableIndex::with_room(heap, PLACES);
     println!(rt; "Once more through each store:")?;
-    through::show(rt, "hash", draft, tables, lines, memory::hash(heap)?)?;
-    through::show_cached(
-        rt,
-        "hash, cached",
-        draft,
-        tables,
-        lines,
-        memory::hash(heap)?,
-    )?;
-    through::show(rt, "sorted", draft, tables, lines, memory::sorted(heap)?)?;
-    through::show_cached(
-        rt,
-        "sorted, cached",
-        draft,
-        tables,
-        lines,
-        memory::sorted(heap)?,
-    )?;
-    Ok(())
+    let store = Counting::over(SixTables::try_from_fn(&hash)?);
+    day.show(rt, "hash", store, |store| store)?;
+    let store = Cached::over(Counting::over(SixTables::try_from_fn(&hash)?));
+    day.show(rt, "hash, cached", store, |store| store.into_inner())?;
+    let store = Counting::over(SixTables::try_from_fn(&sorted)?);
+    day.show(rt, "sorted", store, |store| store)?;
+    let store = Cached::over(Counting::over(SixTables::try_from_fn(&sorted)?));
+    day.show(rt, "sorted, cached", store, |store| store.into_inner())
 }
 
 fn main(rt: HostRuntime) -> anyhow::Result<()> {

@@ -52,11 +52,8 @@ pub(crate) fn name_of(table: usize) -> &'static str {
 
 // The kind of the column after `before` others; a number where there is none.
 pub(crate) fn kind_of(draft: &Draft, table: usize, before: usize) -> Kind {
-    match draft.headings().get(table) {
-        Some(heading) => match heading.columns().get(before) {
-            Some(kind) => *kind,
-            None => Kind::Number,
-        },
-        None => Kind::Number,
-    }
+    let heading = draft.headings().get(table);
+    heading
+        .and_then(|heading| heading.columns().get(before).copied())
+        .unwrap_or(Kind::Number)
 }

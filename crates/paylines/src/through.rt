@@ -1,72 +1,52 @@
 // The day once more through a store: its rows are built, and the lines found by asking `next` for the joins.
 use crate::probes;
-use caching::cache::Cached;
 use cells::rows::Row;
 use counting::Counting;
 use faults::Fault;
 use query::drafts::Draft;
 use stores::Store;
 
-// Builds the rows of a table, numbered on from `stamp`; a row that finds no room is left out.
-fn build_rows<S: Store>(store: &mut S, table: usize, rows: &[Row], stamp: u64) {
-    let mut stamp = stamp;
-    for row in rows {
-        stamp = stamp.saturating_add(1);
-        let _ = store.build(table, *row, stamp);
-    }
+// A query, the rows accepted, and the lines that the nested loops answer.
+#[derive(Clone, Copy)]
+pub(crate) struct Answered<'a> {
+    pub(crate) draft: &'a Draft,
+    pub(crate) tables: &'a [Vec<Row>],
+    pub(crate) lines: &'a [u8],
 }
 
+// Builds the rows of each table, numbered from 1; a row that finds no room is left out.
 fn build_all<S: Store>(store: &mut S, tables: &[Vec<Row>]) {
-    for t in 0..tables.len() {
-        build_rows(store, t, tables[t].as_slice(), 0);
+    for (table, rows) in tables.iter().enumerate() {
+        for (stamp, row) in (1..).zip(rows) {
+            let _ = store.build(table, *row, stamp);
+        }
     }
 }
 
-// Says whether the lines are the same, and how often the store was asked.
-fn report<S: Store>(
-    rt: &HostRuntime,
-    name: &str,
-    found: &[u8],
-    lines: &[u8],
-    store: &Counting<S>,
-) -> Result<(), Fault> {
-    let verdict = if found == lines {
-        "the same lines"
-    } else {
-        "OTHER LINES"
-    };
-    let punches = store.asked(0);
-    let crews = store.asked(1);
-    println!(rt; "{name}: {verdict}; asked {punches} of punch, {crews} of crew")?;
-    Ok(())
-}
-
-// The day through this store.
-pub(crate) fn show<S: Store + Drop>(
-    rt: &HostRuntime,
-    name: &str,
-    draft: &Draft,
-    tables: &[Vec<Row>],
-    lines: &[u8],
-    store: S,
-) -> Result<(), Fault> {
-    let mut store = Counting::over(store);
-    build_all(&mut store, tables);
-    let found = probes::answer(rt.alloc(), draft, &mut store)?;
-    report(rt, name, &found, lines, &store)
-}
-
-// The day through this store with a cache over it: what the cache remembers, the store is not asked.
-pub(crate) fn show_cached<S: Store + Drop>(
-    rt: &HostRuntime,
-    name: &str,
-    draft: &Draft,
-    tables: &[Vec<Row>],
-    lines: &[u8],
-    store: S,
-) -> Result<(), Fault> {
-    let mut store = Cached::over(Counting::over(store));
-    build_all(&mut store, tables);
-    let found = probes::answer(rt.alloc(), draft, &mut store)?;
-    report(rt, name, &found, lines, &store.into_inner())
+impl Answered<'_> {
+    // Says whether the lines through this store are the same, and how often the one that counts was asked.
+    pub(crate) fn show<S: Store + Drop, T: Store + Drop, F: FnOnce(S) -> Counting<T> + Drop>(
+        &self,
+        rt: &HostRuntime,
+        name: &str,
+        mut store: S,
+        counted: F,
+    ) -> Result<(), Fault>
+        requires { F.IsAlwaysCallable counted }
+    {
+        build_all(&mut store, self.tables);
+        let found = probes::answer(rt.alloc(), self.draft, &mut store)?;
+        let verdict = if found.as_slice() == self.lines {
+            "the same lines"
+        } else {
+            "OTHER LINES"
+        };
+        let store = counted(store);
+        println!(rt;
+            "{name}: {verdict}; asked {} of punch, {} of crew",
+            store.asked(0),
+            store.asked(1)
+        )?;
+        Ok(())
+    }
 }
