@@ -5,6 +5,7 @@ use crate::types::Kind;
 
 pub mod calls;
 
+// By hand: it is `Copy` and wants no memory, and the kit's `ArrayVec` is not `Copy`; a `Model` would have to pin what stands behind `len`.
 #[derive(Clone, Copy, Debug, PartialEq, Eq)]
 pub struct Heading {
     kinds: [Kind; 6],

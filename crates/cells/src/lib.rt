@@ -29,7 +29,7 @@ pub fn code_byte(b: u8) -> bool
 fn lawful_code(c: &Code) -> bool
     ensures value { result ≡ lawful_code c.now }
 {
-    if c.len == 0 || c.len > 12 {
+    if !(1..=12).contains(&c.len) {
         return false;
     }
     let (text, rest) = c.bytes.split_at(usize::from(c.len));

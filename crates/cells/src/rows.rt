@@ -6,6 +6,7 @@ ghost use Rattle.cells.specs.Rows.{cells_of};
 use crate::types::Cell;
 
 // At most six cells; places behind `len` mean nothing.
+// By hand: it is `Copy`, plain data that anyone may write, and the kit's `ArrayVec` is not.
 #[derive(Clone, Copy, Debug, PartialEq, Eq)]
 pub struct Row {
     pub cells: [Cell; 6],
@@ -14,6 +15,7 @@ pub struct Row {
 
 impl Row {
     // A row of these cells, if there are at most six.
+    // By hand: a `TryFrom` would name an error that says no more than None does.
     pub fn of(cells: &[Cell]) -> Option<Row>
         ensures value { MatchOption result (6 < length cells.now) (λ row. cells_of row ≡ cells.now) }
     {

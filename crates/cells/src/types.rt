@@ -8,6 +8,7 @@ pub enum Kind {
 }
 
 // A code: its bytes, with 0 behind its end.
+// By hand: it is `Copy`, plain data that may be unlawful, and the kit's `ArrayVec` is not.
 #[derive(Clone, Copy, Debug, PartialEq, Eq, PartialOrd, Ord, Hash)]
 pub struct Code {
     pub bytes: [u8; 12],

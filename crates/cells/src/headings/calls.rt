@@ -40,23 +40,16 @@ impl Heading {
         }
     }
 
-    fn add(&mut self, kind: Kind)
-        requires { length (columns self.old) < 6 }
-        ensures after { columns self.new ≡ columns self.old ++ kind ∷ [] }
-    {
-        self.kinds[self.len] = kind;
-        self.len += 1;
-    }
-
     // One more column, unless there are six.
     pub fn push(&mut self, kind: Kind) -> Result<(), HeadingRefusal>
         ensures answer { answered refusal_number result ≡ first_no (push_questions (columns self.old)) }
         ensures after { columns self.new ≡ (if is_ok result then columns self.old ++ kind ∷ [] else columns self.old) }
     {
-        if self.columns().len() >= 6 {
+        if self.len >= 6 {
             return Err(HeadingRefusal::SeventhColumn);
         }
-        self.add(kind);
+        self.kinds[self.len] = kind;
+        self.len += 1;
         Ok(())
     }
 
