@@ -95,6 +95,7 @@ impl Policy for Lottery {
     }
 
     fn told(&mut self, news: News, which: u8) {
+        // By hand: with `get_mut` the goal what the tickets are at the return, `returns-after-news`, stays open.
         let at = usize::from(which);
         if at < 14 {
             let n = self.tickets[at];

@@ -1,21 +1,17 @@
 // Answers by nested loops that are known beforehand.
-use crate::star;
+use crate::{letter, star};
 use cells::rows::Row;
-use cells::types::{Cell, Code};
+use cells::types::Cell;
 use expressions::types::{Column, Item};
 use faults::Fault;
 use query::drafts::Draft;
 use std::alloc::Global;
 
 // A row with the number 5 and a code of one letter.
-fn five(letter: u8) -> Row {
-    let code = Code {
-        bytes: [letter, 0, 0, 0, 0, 0, 0, 0, 0, 0, 0, 0],
-        len: 1,
-    };
+fn five(byte: u8) -> Row {
     let none = Cell::Number(0);
     Row {
-        cells: [Cell::Number(5), Cell::Code(code), none, none, none, none],
+        cells: [Cell::Number(5), letter(byte), none, none, none, none],
         len: 2,
     }
 }
@@ -47,11 +43,8 @@ pub(crate) fn twice_two(heap: Global) -> Result<Vec<u8>, Fault> {
     let mut draft = star(heap, 2)?;
     show_all(&mut draft)?;
     let mut tables = Vec::new(heap);
-    for letter in [b'A', b'B'] {
-        let mut rows = Vec::new(heap);
-        rows.push(five(letter))?;
-        rows.push(five(letter))?;
-        tables.push(rows)?;
+    for byte in [b'A', b'B'] {
+        tables.push(Vec::from_slice(heap, &[five(byte); 2])?)?;
     }
     Ok(nested_loops::answer(heap, &draft, &tables)?)
 }

@@ -1,6 +1,6 @@
 // Each refusal of a draft and of a row, met at least once. A refused call changes nothing, so one draft serves for several.
-use crate::{pair, say, star};
-use cells::types::{Cell, Code};
+use crate::{letter, pair, say, star};
+use cells::types::Cell;
 use expressions::types::{Column, Item};
 use faults::Fault;
 use query::drafts::Draft;
@@ -145,13 +145,6 @@ pub(crate) fn show_shown(rt: &HostRuntime, heap: Global) -> Result<(), Fault> {
         "a seventh shown thing",
         refusal_of(draft.show_value(&[Item::Number(1)])),
     )
-}
-
-fn letter(byte: u8) -> Cell {
-    Cell::Code(Code {
-        bytes: [byte, 0, 0, 0, 0, 0, 0, 0, 0, 0, 0, 0],
-        len: 1,
-    })
 }
 
 pub(crate) fn show_rows(rt: &HostRuntime, heap: Global) -> Result<(), Fault> {

@@ -7,7 +7,7 @@ mod spellings;
 mod values;
 
 use cells::headings::{Heading, HeadingRefusal};
-use cells::types::Kind;
+use cells::types::{Cell, Code, Kind};
 use expressions::types::Column;
 use faults::Fault;
 use query::drafts::Draft;
@@ -22,6 +22,14 @@ where
     let number = answer.map_or_else(u8::from, |()| 0);
     println!(rt; "{what}: {number}")?;
     Ok(())
+}
+
+// A code of one letter.
+fn letter(byte: u8) -> Cell {
+    Cell::Code(Code {
+        bytes: [byte, 0, 0, 0, 0, 0, 0, 0, 0, 0, 0, 0],
+        len: 1,
+    })
 }
 
 // A heading with a number column and a code column.
