@@ -5,7 +5,6 @@ use Rattle.std.specs.Option.{option_map, option_and_then}
 use Rattle.std.proofs.ByRecursion.{All-map, All-set, All-weaker}
 use Rattle.std.proofs.lemmas.Bool.{and_parts, eqb-true, eq-eqb, both_ways}
 use Rattle.cells.specs.declared.rows.Row.{Row}
-use Rattle.keys.specs.Keys.{same_cell}
 use Rattle.keys.specs.CellOrder.{same_cell_decides}
 use Rattle.stores.specs.Tables.{Table, built}
 use Rattle.stores.proofs.Builds.{next_other, next_built}
@@ -15,14 +14,14 @@ use Rattle.caching.specs.Memory.{right_answer, Right, same_question, recalled, k
 
 same_asked : (a b : Asked) → same_question a b ≡ true → a ≡ b
 same_asked a b e =
-    let p = and_parts (eqb a.table b.table) (eqb a.question.column b.question.column && (eqb a.question.after b.question.after && same_cell a.question.key b.question.key)) e in
-    let q = and_parts (eqb a.question.column b.question.column) (eqb a.question.after b.question.after && same_cell a.question.key b.question.key) p.1 in
-    let r = and_parts (eqb a.question.after b.question.after) (same_cell a.question.key b.question.key) q.1 in
-    let t = eqb-true a.table b.table p.0 in
-    let c = eqb-true a.question.column b.question.column q.0 in
-    let f = eqb-true a.question.after b.question.after r.0 in
-    let k = (same_cell_decides a.question.key b.question.key).0 r.1 in
-    λ i. record { table = t i; question = record { column = c i; key = k i; after = f i } }
+    let t = and_parts (eqb a.table b.table) _ e in
+    let c = and_parts (eqb a.question.column b.question.column) _ t.1 in
+    let f = and_parts (eqb a.question.after b.question.after) _ c.1 in
+    let table = eqb-true a.table b.table t.0 in
+    let column = eqb-true a.question.column b.question.column c.0 in
+    let after = eqb-true a.question.after b.question.after f.0 in
+    let key = (same_cell_decides a.question.key b.question.key).0 f.1 in
+    λ i. record { table = table i; question = record { column = column i; key = key i; after = after i } }
 
 -- does a place remember the question?
 abbrev pub remembers : Asked → Option Remembered → Bool

@@ -8,7 +8,8 @@ use stores::Store;
 
 pub mod calls;
 
-// `turn` is the place that is replaced next. Every remembered answer is the one that the store below would give.
+// Every remembered answer is the one that the store below would give. `turn` is the place that is replaced next.
+// By hand: nothing is allocated, so the places are an array.
 #[derive(Drop)]
 pub struct Cached<S: Store> {
     inner: S,

@@ -9,7 +9,7 @@ mod through;
 
 use caching::cache::Cached;
 use cells::rows::Row;
-use cells::types::Cell;
+use cells::types::{Cell, Kind};
 use counting::Counting;
 use day::DAY;
 use faults::Fault;
@@ -22,16 +22,11 @@ use through::Answered;
 // Places for each table of a small day.
 const PLACES: usize = 64;
 
-// The cells that the words spell, each read for its column's kind; None if a word spells no cell.
-fn read_cells(
-    heap: Global,
-    draft: &Draft,
-    table: usize,
-    words: &str,
-) -> Result<Option<Vec<Cell>>, AllocError> {
+// The cells that the words spell, each read for its column's kind, a number where there is none; None if a word spells no cell.
+fn read_cells(heap: Global, kinds: &[Kind], words: &str) -> Result<Option<Vec<Cell>>, AllocError> {
     let mut cells = Vec::new(heap);
     for word in words.split(' ') {
-        let kind = overtime::kind_of(draft, table, cells.len());
+        let kind = kinds.get(cells.len()).copied().unwrap_or(Kind::Number);
         let Some(cell) = spelling::read(kind, word.as_bytes()) else {
             return Ok(None);
         };
@@ -49,7 +44,8 @@ fn take_row(
     words: &str,
 ) -> Result<(), Fault> {
     let name = overtime::name_of(table);
-    let Some(cells) = read_cells(rt.alloc(), draft, table, words)? else {
+    let kinds = overtime::kinds_of(draft, table);
+    let Some(cells) = read_cells(rt.alloc(), kinds, words)? else {
         println!(rt; "{name} {words}: spells no cell")?;
         return Ok(());
     };

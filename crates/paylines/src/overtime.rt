@@ -43,17 +43,11 @@ pub(crate) fn draft(heap: Global) -> Result<Draft, Fault> {
 
 // What a table is called.
 pub(crate) fn name_of(table: usize) -> &'static str {
-    match table {
-        0 => "punch",
-        1 => "crew",
-        _ => "other",
-    }
+    ["punch", "crew"].get(table).copied().unwrap_or("other")
 }
 
-// The kind of the column after `before` others; a number where there is none.
-pub(crate) fn kind_of(draft: &Draft, table: usize, before: usize) -> Kind {
+// The kinds of a table's columns; none where there is no such table.
+pub(crate) fn kinds_of(draft: &Draft, table: usize) -> &[Kind] {
     let heading = draft.headings().get(table);
-    heading
-        .and_then(|heading| heading.columns().get(before).copied())
-        .unwrap_or(Kind::Number)
+    heading.map_or(&[], |heading| heading.columns())
 }

@@ -13,6 +13,7 @@ use stores::{BuildRefusal, Question, Store};
 
 impl<T: Index> SixTables<T> {
     // The store of these tables, 0 to 5.
+    // By hand: tried one parameter `[T; 6]`, and a caller over any index was left to prove that six of it are below 2 ^ 63 bytes.
     pub fn of(t0: T, t1: T, t2: T, t3: T, t4: T, t5: T) -> SixTables<T>
         ensures value { tables_of T.Index.table result ≡ T.Index.table t0 ∷ T.Index.table t1 ∷ T.Index.table t2 ∷ T.Index.table t3 ∷ T.Index.table t4 ∷ T.Index.table t5 ∷ [] }
     {
@@ -35,6 +36,7 @@ impl<T: Index> SixTables<T> {
     fn index(&self, table: usize) -> Option<&T>
         ensures value { table_in T.Index.table result ≡ table_at (tables_of T.Index.table self.now) table }
     {
+        // By hand: fields have no `get`, and the array that has it was tried (`SixTables`).
         match table {
             0 => Some(&self.0),
             1 => Some(&self.1),
@@ -69,7 +71,7 @@ impl<T: Index> Store for SixTables<T> {
     ghost within_room = { Prim.search rules };
 
     fn build(&mut self, table: usize, row: Row, stamp: u64) -> Result<(), BuildRefusal> {
-        // By hand: a function that lends the index is no plainer, since it has these six arms again.
+        // By hand: a function that lends the index to build in is no plainer, since it has these six arms again.
         match table {
             0 => self.0.build(row, stamp),
             1 => self.1.build(row, stamp),

@@ -1,5 +1,5 @@
 use Rattle.std.proofs.Common.{◌∙◌, rules}
-use Rattle.std.proofs.Math.ListN.{length-set}
+use Rattle.std.proofs.lemmas.List.{length-set}
 use Rattle.caching.specs.declared.types.Asked.{Asked}
 use Rattle.caching.proofs.Kept.{recalled_right, set_right}
 use Rattle.caching.proofs.cache.calls.CachedStore.next.Goals as goal
