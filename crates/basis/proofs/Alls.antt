@@ -1,16 +1,9 @@
--- `all` and `any` over a list: at an element, at one more, at the end.
-use Rattle.std.proofs.Common.{◌≡◌, ℕ, zero, suc, ◌+◌, ◌<◌, ◌≤◌, Bool, true, false, ◌||◌, List, [], ◌∷◌, ◌++◌, length, get_or, take, sym, refl, ap, ◌∙◌, subst, arith}
-use Rattle.std.proofs.lemmas.Bool.{and_left, and_right, and_parts, and_from, or_left, or_right}
-use Rattle.std.proofs.lemmas.List.{take_more, take_all}
+-- `all` and `any` over a list: at an element, over two lists, at one more.
+use Rattle.std.proofs.Common.{◌≡◌, ℕ, zero, suc, ◌<◌, Bool, true, false, ◌||◌, List, [], ◌∷◌, ◌++◌, length, get_or, sym, refl, ap, ◌∙◌, arith}
+use Rattle.std.proofs.lemmas.Bool.{and_parts, and_from, or_left, or_right}
 use Rattle.basis.specs.Lists.{all, any}
 
 module _ {A : Type 0} (p : A → Bool) where
-  -- one element that fails the test
-  pub all_no : (xs : List A) (i : ℕ) (d : A) → i < length xs → p (get_or xs i d) ≡ false → all p xs ≡ false
-  all_no [] i d h e = absurd (let z : ⊥ = omega arith in z)
-  all_no (x ∷ xs) zero d h e = and_left (p x) (all p xs) e
-  all_no (x ∷ xs) (suc i) d h e = and_right (p x) (all p xs) (all_no xs i d (omega arith) e)
-
   pub all_at : (xs : List A) (i : ℕ) (d : A) → i < length xs → all p xs ≡ true → p (get_or xs i d) ≡ true
   all_at [] i d h e = absurd (let z : ⊥ = omega arith in z)
   all_at (x ∷ xs) zero d h e = (and_parts (p x) (all p xs) e).0
@@ -30,12 +23,6 @@ module _ {A : Type 0} (p : A → Bool) where
 
   pub all_push : (xs : List A) (y : A) → all p xs ≡ true → p y ≡ true → all p (xs ++ y ∷ []) ≡ true
   all_push xs y h e = all_append xs (y ∷ []) h (and_from (p y) true e refl)
-
-  pub all_more : (xs : List A) (i : ℕ) (d : A) → i < length xs → all p (take i xs) ≡ true → p (get_or xs i d) ≡ true → all p (take (i + 1) xs) ≡ true
-  all_more xs i d h before e = ap (all p) (take_more xs i d h) ∙ all_push (take i xs) (get_or xs i d) before e
-
-  pub all_end : (xs : List A) (i : ℕ) → length xs ≤ i → all p (take i xs) ≡ true → all p xs ≡ true
-  all_end xs i h e = subst (λ l. all p l ≡ true) (take_all i xs h) e
 
   pub any-append-left : (xs ys : List A) → any p xs ≡ true → any p (xs ++ ys) ≡ true
   any-append-left [] ys h = absurd (let z : ◌≡◌ {A = ℕ} 0 1 = cc in omega arith)
