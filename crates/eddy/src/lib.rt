@@ -2,5 +2,6 @@
 #![tactic(auto)]
 
 pub mod counts;
+mod refusals;
 pub mod run;
 pub mod types;
