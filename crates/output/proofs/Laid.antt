@@ -18,10 +18,6 @@ laid-append buf p (x ∷ xs) ys =
     let e : suc p + length xs ≡ p + length (x ∷ xs) = omega arith in
     laid-append (set buf p x) (suc p) xs ys ∙ ap (λ n. laid (laid (set buf p x) (suc p) xs) n ys) e
 
--- nothing was written yet
-pub puts_none : (b : List ℕ) (p : ℕ) → p ≤ length b → Puts b p [] b p true
-puts_none b p h = record { held = refl; moved = omega arith; fits = search rules }
-
 -- a part that fitted, and then another
 pub puts_then : {b m a : List ℕ} {p q r : ℕ} {ok : Bool} (xs ys : List ℕ) → p ≤ length b → Puts b p xs m q true → Puts m q ys a r ok → Puts b p (xs ++ ys) a r ok
 puts_then {b} {m} {a} {p} {q} {r} {ok} xs ys h one two =

@@ -22,25 +22,18 @@ impl fmt::Display for Full {
 
 impl Error for Full {}
 
-// Holds the place while a line is written, and puts it back at its end unless the whole line was written.
+// Holds the place while a line is written, and sets it where it is to stand at the end.
 struct PlaceGuard<'a> {
     place: &'a mut usize,
-    start: usize,
-    whole: bool,
+    end: usize,
 }
 
 impl Drop for PlaceGuard<'_> {
     fn drop(self)
-        ensures { self.exit.0.now ≡ (if self.entry.whole then self.entry.place.now else self.entry.start) }
+        ensures { self.exit.0.now ≡ self.entry.end }
     {
-        let PlaceGuard {
-            place,
-            start,
-            whole,
-        } = self;
-        if !whole {
-            *place = start;
-        }
+        let PlaceGuard { place, end } = self;
+        *place = end;
     }
 }
 
@@ -49,6 +42,7 @@ fn put(out: &mut [u8], place: &mut usize, byte: u8) -> Result<(), Full>
     requires { place.old ≤ length out.old }
     ensures { Puts out.old place.old (byte ∷ []) out.new place.new (is_ok result) }
 {
+    // By hand: nothing is known of a slice after `get_mut`, so the proof left open what the buffer then holds.
     if *place >= out.len() {
         return Err(Full {});
     }
@@ -76,12 +70,8 @@ pub fn write_line(out: &mut [u8], place: &mut usize, line: &[u8]) -> Result<(), 
     ensures after { place.new ≡ (if is_ok result then place.old + length line.now else place.old) }
 {
     let start = *place;
-    let mut guard = PlaceGuard {
-        place,
-        start,
-        whole: false,
-    };
+    let mut guard = PlaceGuard { place, end: start };
     put_all(out, guard.place, line)?;
-    guard.whole = true;
+    guard.end = *guard.place;
     Ok(())
 }
