@@ -41,6 +41,6 @@ pub(crate) fn file_row(places: &mut [Place], ends: &mut [Ends; 384], row: Row)
 {
     let cells = &row.cells[..row.len.min(6)];
     for (c, x) in cells.iter().enumerate() {
-        chain_row(places, ends, Chain::of(c + 1, x));
+        chain_row(places, ends, Chain::holding(c + 1, x));
     }
 }

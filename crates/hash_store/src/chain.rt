@@ -25,8 +25,8 @@ fn bucket(x: &Cell) -> usize
 }
 
 impl Chain {
-    // The chain of the rows that have the cell in the column.
-    pub(crate) fn of(column: usize, x: &Cell) -> Chain
+    // The chain of the rows that hold the cell in the column, and of those whose cell is in its bucket too.
+    pub(crate) fn holding(column: usize, x: &Cell) -> Chain
         requires { IsColumn column }
         ensures column { result.column ≡ column }
         ensures bucket { result.bucket ≡ cell_bucket x.now }

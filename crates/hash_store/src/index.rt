@@ -9,6 +9,7 @@ mod walks;
 
 // The places hold the rows, in building order, and grow within what the caller handed in. For each column and bucket, `ends` has
 // the oldest row and the newest; the rows between are linked in the places.
+// By hand: `room` is no length, but the limit that was asked for, which may be below what the places suffice for.
 #[derive(Drop)]
 pub struct TableIndex {
     places: Vec<Place>,

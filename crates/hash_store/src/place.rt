@@ -24,6 +24,7 @@ impl Place {
 }
 
 // The oldest row of a bucket and the newest, or 0.
+// By hand: 0 is for none, as in a link.
 #[derive(Clone, Copy)]
 pub(crate) struct Ends {
     pub head: u16,

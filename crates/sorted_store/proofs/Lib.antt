@@ -1,4 +1,3 @@
-mod Windows
 mod Stretches
 mod Inserting
 mod Adding

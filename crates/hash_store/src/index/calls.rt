@@ -89,7 +89,7 @@ impl Index for TableIndex {
                 visited: 0,
             };
         }
-        let chain = Chain::of(column, &key);
+        let chain = Chain::holding(column, &key);
         match key {
             Cell::Number(z) => self.walk(chain, z, after),
             Cell::Code(c) => self.walk(chain, c, after),

@@ -21,6 +21,7 @@ fn holds<K: Key>(p: &Place, column: usize, key: &K) -> bool
 
 impl TableIndex {
     // The first row that a question looks at, or 0: the link of the row `after`, if that is itself in the chain, else the head.
+    // By hand: an Option would be no plainer, since links are 0 for none, and `numbered` finds nothing at 0.
     fn start(&self, chain: Chain, after: usize) -> usize
         ensures value { result ≡ next_filed (table_of self.now).rows chain.column chain.bucket (begins_behind (table_of self.now).rows chain.column chain.bucket after) }
     {
@@ -36,6 +37,7 @@ impl TableIndex {
         ensures value { result.found ≡ next_after (matches chain.column (K.cell key)) after (table_of self.now).rows }
         ensures cost { result.visited ≡ visits (table_of self.now).rows chain.column (K.cell key) after }
     {
+        // By hand: a chain over the links is no plainer, since it has to say how many it passed when it finds a row.
         let mut at = self.start(chain, after);
         let mut visited = 0;
         while let Some(p) = numbered(&self.places, at) {

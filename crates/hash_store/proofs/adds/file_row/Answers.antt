@@ -17,7 +17,7 @@ loop-c-init c = record {
 
 pub chain_row-requires-clause-chained : goal.chain_row-requires-clause-chained
 chain_row-requires-clause-chained c =
-    subst (λ (d : ℕ). Chained (rows_in c.loop-c.places) c.loop-c.places c.loop-c.ends d) (sym c.of.ensures.column)
+    subst (λ (d : ℕ). Chained (rows_in c.loop-c.places) c.loop-c.places c.loop-c.ends d) (sym c.holding.ensures.column)
     (subst (λ (rows : List Built). Chained rows c.loop-c.places c.loop-c.ends (c.loop-c.c + 1)) (sym c.loop-c.invariant.rows)
     (c.loop-c.invariant.left (c.loop-c.c + 1) (omega arith, search rules) (omega arith)))
 
@@ -28,12 +28,12 @@ loop-c-preserved c =
     let cells : length row.cells ≡ 6 = search rules in
     let same : take c.min.result row.cells ≡ cells_of row = ap (λ m. take m row.cells) c.min.ensures ∙ held row.cells row.len cells in
     let e = c.chain_row.ensures in
-    let column = c.of.ensures.column in
+    let column = c.holding.ensures.column in
     filed_more c.args.places.now (cells_of row) c.loop-c.places c.chain_row.new.places c.loop-c.ends c.chain_row.new.ends i _
     (ap (numbered (cells_of row)) (add-one i) ∙ ap (λ l. slice_get l i) (sym same) ∙ slice_get-get_or (take c.min.result row.cells) i _ c.loop-c-test.true)
     c.loop-c.invariant e.rows
     (λ r here. subst (Chained (rows_in c.loop-c.places ++ r ∷ []) c.chain_row.new.places c.chain_row.new.ends) column
-    (e.filed r ((λ k. in_bucket (column k) (c.of.ensures.bucket k) r) ∙ here)))
+    (e.filed r ((λ k. in_bucket (column k) (c.holding.ensures.bucket k) r) ∙ here)))
     (λ rows d is ne. e.others rows d is (λ same. ne (same ∙ column)))
 
 pub returns-clause-filed : goal.returns-clause-filed

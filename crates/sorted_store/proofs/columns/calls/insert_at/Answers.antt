@@ -1,7 +1,9 @@
 use Rattle.std.proofs.Common.{◌≡◌, ◌+◌, ◌-◌, ◌≤◌, length, take, drop, sym, ap, ◌∙◌, arith}
+use Rattle.std.proofs.lemmas.List.{drop-take}
+use Rattle.std.proofs.lemmas.Slice.{between-put_mid, take-put_mid_below, drop-put_mid}
+use borrow.Rule.Slice.PartMut.{put_mid}
 use Rattle.sorted_index.specs.Sorting.{sorted, inserted}
 use Rattle.sorted_store.specs.Columns.{cell_order}
-use Rattle.sorted_store.proofs.Windows.{exchanged, exchanged_here, exchanged_below, exchanged_above}
 use Rattle.sorted_store.proofs.Stretches.{part_long, part_front}
 use Rattle.sorted_store.proofs.columns.calls.insert_at.Goals as goal
 
@@ -16,13 +18,13 @@ returns c =
     let long = part_long xs a n k is c.requires in
     let front = part_front xs a n k is c.requires in
     let same : length ys ≡ k = omega arith in
-    let inside : a + k ≤ length xs = omega (arith, c.requires) in
+    let low : a ≤ length xs = omega (arith, c.requires) in
     record {
       here = λ s.
-          ap (λ m. take m (drop a (exchanged a k xs ys))) (sym is)
-          ∙ exchanged_here xs ys a k inside same
+          ap (λ m. take m (drop a (put_mid a k xs ys))) (sym is)
+          ∙ between-put_mid a k xs ys (a + n + 1) low same
           ∙ c.insert.ensures.after (omega arith) (ap (sorted cell_order) front ∙ s)
           ∙ ap (inserted cell_order c.args.entry) front;
-      below = exchanged_below xs ys a k inside same;
-      above = λ o m lt. exchanged_above xs ys a k inside same o m (omega arith);
+      below = λ o m le. sym (drop-take o m (put_mid a k xs ys)) ∙ ap (drop o) (take-put_mid_below a k xs ys (o + m) le low) ∙ drop-take o m xs;
+      above = λ o m lt. ap (take m) (drop-put_mid a k xs ys o (omega arith) low same);
     }

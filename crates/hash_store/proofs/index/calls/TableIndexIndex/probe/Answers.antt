@@ -24,13 +24,13 @@ returns-in-Number-clause-cost c =
     let q = c.args.question in
     let fits : SFits w64 c.in-Number.z = search rules in
     let same = c.in-Number.is ∙ ap cell.Number (sym (to_z-of_z w64 c.in-Number.z fits)) in
-    c.walk.ensures.cost ∙ sym (λ i. visits rows (sym c.of-chain.ensures.column i) (same i) q.after)
+    c.walk.ensures.cost ∙ sym (λ i. visits rows (sym c.holding-chain.ensures.column i) (same i) q.after)
 
 pub returns-in-Code-clause-cost : goal.returns-in-Code-clause-cost
 returns-in-Code-clause-cost c =
     let rows = (table_of c.args.self.now).rows in
     let q = c.args.question in
-    c.walk-in-Code.ensures.cost ∙ sym (λ i. visits rows (sym c.of-chain.ensures.column i) (c.in-Code.is i) q.after)
+    c.walk-in-Code.ensures.cost ∙ sym (λ i. visits rows (sym c.holding-chain.ensures.column i) (c.in-Code.is i) q.after)
 
 pub returns-in-Number-clause-law : goal.returns-in-Number-clause-law
 returns-in-Number-clause-law c = drain_law
