@@ -5,7 +5,7 @@ use crate::types::Kind;
 
 pub mod calls;
 
-// By hand: it is `Copy` and wants no memory, and the kit's `ArrayVec` is not `Copy`; a `Model` would have to pin what stands behind `len`.
+// By hand: it is `Copy`, and the kit's `ArrayVec` is not; seen as a list by a `Model`, it would no longer tell a draft's law how long it is.
 #[derive(Clone, Copy, Debug, PartialEq, Eq)]
 pub struct Heading {
     kinds: [Kind; 6],
