@@ -1,8 +1,8 @@
 -- A walk along a chain passes over no match, and counts the rows of the bucket.
-use Rattle.std.specs.Prelude.{◌≡◌, ℕ, zero, suc, ◌+◌, ◌-◌, ◌<◌, ◌≤◌, true, false, cond, List, length, Some, None, Option, ◌==◌, nat_eq, slice_index_or, refl}
-use Rattle.std.proofs.Common.{sym, ap, subst, ◌∙◌, ⊎_elim, add-one, arith}
+use Rattle.std.specs.Prelude.{◌≡◌, ℕ, zero, suc, ◌+◌, ◌-◌, ◌<◌, ◌≤◌, true, false, cond, List, length, take, Some, None, Option, ◌==◌, nat_eq, slice_index_or, refl}
+use Rattle.std.proofs.Common.{sym, ap, subst, ◌∙◌, ⊎_elim, add-one, arith, length-take}
 use Rattle.std.proofs.lemmas.List.{get_or_default}
-use Rattle.std.proofs.lemmas.List.Sums.{count_by_more_yes, count_by_more_no}
+use Rattle.std.proofs.lemmas.List.Sums.{count_by_more_yes, count_by_more_no, count_by-le-length}
 use Rattle.std.proofs.lemmas.Bool.{both_ways, eq-eqb, ne_eqb, cases_Bool, cases_lt, cases_eq}
 use Rattle.basis.specs.Lists.{numbered}
 use Rattle.cells.specs.declared.types.Cell.{Cell}
@@ -50,6 +50,11 @@ module _ (rows : List Built) (column : ℕ) (key : Cell) (after behind : ℕ) wh
     pub here : 0 < at → in_bucket column (cell_bucket key) (slice_index_or rows (at - 1) no_row) ≡ true
     pub seen : 0 < at → visited + filed_upto rows column (cell_bucket key) behind ≡ filed_upto rows column (cell_bucket key) (at - 1)
     pub all : at ≡ 0 → visited + filed_upto rows column (cell_bucket key) behind ≡ filed_upto rows column (cell_bucket key) (length rows)
+
+  pub walk_few : (at visited : ℕ) → Walk at visited → 0 < at → visited < at
+  walk_few at visited w pos =
+      let most = count_by-le-length (in_bucket column (cell_bucket key)) (take (at - 1) rows) in
+      omega (arith, w.seen pos, most, length-take (at - 1) rows)
 
   -- from the first lo rows on to the next of the bucket
   pub walk_from : (lo y visited : ℕ) → lo ≤ length rows → (after ≤ lo → next_after (matches column key) after rows ≡ next_after (matches column key) lo rows)
