@@ -10,6 +10,7 @@ use std::error::Error;
 use std::fmt;
 use stores::BuildRefusal;
 
+// By hand: a derived From has no contract, so each `?` would need a map_err that names the refusal, which is no plainer.
 impl From<RowRefusal> for Refusal {
     ghost from_gives = { λ why refusal. refusal ≡ Row why };
 

@@ -51,6 +51,7 @@ fn put(out: &mut [u8], place: &mut usize, byte: u8) -> Result<(), Full>
     Ok(())
 }
 
+// By hand: the buffer and the place are two variables of the caller's, so a struct of both would be taken apart again, and is no plainer.
 fn put_all(out: &mut [u8], place: &mut usize, bytes: &[u8]) -> Result<(), Full>
     requires { place.old ≤ length out.old }
     ensures { Puts out.old place.old bytes.now out.new place.new (is_ok result) }
