@@ -6,6 +6,7 @@ use crate::types::{DraftError, Refusal};
 use std::error::Error;
 use std::fmt;
 
+// By hand: `RowRefusal` has the same three impls, since Rust allows no `Display` for every type with a number, and the gate no impl by a macro.
 impl From<Refusal> for u8 {
     ghost from_gives = { λ refusal number. number ≡ refusal_number refusal };
 
