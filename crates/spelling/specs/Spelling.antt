@@ -5,7 +5,7 @@ use Rattle.cells.specs.Cells.{lawful, kind_of, code_text}
 use Rattle.cells.specs.declared.types.Kind.{Kind}
 use Rattle.cells.specs.declared.types.Cell.{Cell}
 use Rattle.cells.specs.declared.types.Cell.TheVariants as cell
-use Rattle.spelling.specs.declared.text.Text.{Text}
+use Rattle.spelling.specs.declared.text.ShortText.{ShortText}
 
 -- a number's decimal digits, with `-` before those of a negative one; a code's bytes
 abbrev pub spelling : Cell → List ℕ
@@ -25,5 +25,5 @@ abbrev pub OneSpelling : Type 0
 OneSpelling = (c d : Cell) → kind_of c ≡ kind_of d → lawful c ≡ true → lawful d ≡ true → spelling c ≡ spelling d → c ≡ d
 
 -- the bytes that a text holds
-abbrev pub text_of : Text → List ℕ
+abbrev pub text_of : {n : ℕ} → ShortText n → List ℕ
 text_of t = take t.len t.bytes

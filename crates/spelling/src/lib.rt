@@ -11,8 +11,8 @@ mod text;
 
 use cells::types::Cell;
 pub use reads::{read, read_code, read_number};
-pub use text::Text;
 pub use text::calls::{spell, spell_number};
+pub use text::{ShortText, Text};
 
 // Spells the cell, and reads the bytes for its own kind.
 pub fn reread(cell: &Cell) -> Option<Cell>

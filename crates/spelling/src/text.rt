@@ -3,12 +3,15 @@ ghost use Rattle.std.specs.Prelude.{◌≡◌, ◌≤◌, length};
 
 pub mod calls;
 
-// The first `len` bytes; the places behind them mean nothing.
+// Up to `N` bytes, of which the first `len` are the text; the places behind them mean nothing.
 // By hand: it is `Copy` and wants no memory; the kit's `ArrayVec` is not `Copy`, and its `ArrayString` holds no unlawful code's bytes.
 #[derive(Clone, Copy, Debug)]
-pub struct Text {
-    bytes: [u8; 20],
+pub struct ShortText<const N: usize> {
+    bytes: [u8; N],
     len: usize,
-    ghost within: { len ≤ 20 },
-    ghost places: { length bytes ≡ 20 },
+    ghost within: { len ≤ N },
+    ghost places: { length bytes ≡ N },
 }
+
+// No cell's spelling is longer.
+pub type Text = ShortText<20>;

@@ -1,24 +1,33 @@
 // How a number or a cell is spelled.
-ghost use Rattle.std.specs.Prelude.{◌≡◌, ◌≤◌, length};
+ghost use Rattle.std.specs.Prelude.{◌≡◌, ◌+◌, ◌≤◌, ◌++◌, [], length};
 ghost use Rattle.std.specs.Fmt.{signed_decimal};
 ghost use Rattle.cells.specs.Cells.{code_text};
 ghost use Rattle.spelling.specs.Spelling.{text_of, spelling};
 
-use crate::text::Text;
+use crate::text::{ShortText, Text};
 use cells::types::{Cell, Code};
 use itoa::Buffer;
 
-impl Text {
-    fn holding(text: &[u8]) -> Text
-        requires { length text.now ≤ 20 }
-        ensures value { text_of result ≡ text.now }
+impl<const N: usize> ShortText<N> {
+    // No bytes yet.
+    pub fn new() -> ShortText<N>
+        ensures value { text_of result ≡ [] }
     {
-        let mut bytes = [0u8; 20];
-        bytes[..text.len()].copy_from_slice(text);
-        Text {
-            bytes,
-            len: text.len(),
+        ShortText {
+            bytes: [0; N],
+            len: 0,
         }
+    }
+
+    // Adds these bytes at the end.
+    pub fn push_all(&mut self, bytes: &[u8])
+        requires { length (text_of self.old) + length bytes.now ≤ N }
+        ensures value { text_of self.new ≡ text_of self.old ++ bytes.now }
+    {
+        let end = self.len + bytes.len();
+        let places = &mut self.bytes[..];
+        places[self.len..end].copy_from_slice(bytes);
+        self.len = end;
     }
 
     // The bytes that it holds.
@@ -26,6 +35,17 @@ impl Text {
         ensures value { result.now ≡ text_of self.now }
     {
         &self.bytes[..self.len]
+    }
+}
+
+impl Text {
+    fn holding(text: &[u8]) -> Text
+        requires { length text.now ≤ 20 }
+        ensures value { text_of result ≡ text.now }
+    {
+        let mut held = Text::new();
+        held.push_all(text);
+        held
     }
 }
 
