@@ -9,7 +9,7 @@ use stores::Store;
 pub mod calls;
 
 // Every remembered answer is the one that the store below would give. `turn` is the place that is replaced next.
-// By hand: nothing is allocated, so the places are an array.
+// By hand: nothing is allocated, so the places are an array, and `turn`, which clauses name, is the one to be replaced next.
 #[derive(Drop)]
 pub struct Cached<S: Store> {
     inner: S,

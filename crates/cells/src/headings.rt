@@ -6,7 +6,7 @@ use crate::types::Kind;
 pub mod calls;
 
 // By hand: it is `Copy`, and the kit's `ArrayVec` is not; seen as a list by a `Model`, it would no longer tell a draft's law how long it is.
-#[derive(Clone, Copy, Debug, PartialEq, Eq)]
+#[derive(Clone, Copy, Debug)]
 pub struct Heading {
     kinds: [Kind; 6],
     len: usize,

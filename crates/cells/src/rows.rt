@@ -7,13 +7,19 @@ use crate::types::Cell;
 
 // At most six cells; places behind `len` mean nothing.
 // By hand: it is `Copy`, plain data that anyone may write, and the kit's `ArrayVec` is not.
-#[derive(Clone, Copy, Debug, PartialEq, Eq)]
+#[derive(Clone, Copy, Debug)]
 pub struct Row {
     pub cells: [Cell; 6],
     pub len: usize,
 }
 
 impl Row {
+    // A row of no cells.
+    pub const EMPTY: Row = Row {
+        cells: [Cell::Number(0); 6],
+        len: 0,
+    };
+
     // A row of these cells, if there are at most six.
     // By hand: a `TryFrom` would name an error that says no more than None does.
     pub fn of(cells: &[Cell]) -> Option<Row>
@@ -30,8 +36,10 @@ impl Row {
         })
     }
 
-    fn held(&self) -> &[Cell]
+    // Its cells.
+    pub fn as_slice(&self) -> &[Cell]
         ensures value { result.now ≡ cells_of self.now }
+        ensures fits { length result.now ≤ 6 }
     {
         &self.cells[..self.len.min(6)]
     }
@@ -40,6 +48,6 @@ impl Row {
     pub fn cell(&self, column: usize) -> Option<Cell>
         ensures value { result ≡ numbered (cells_of self.now) column }
     {
-        basis::numbered(self.held(), column)
+        basis::numbered(self.as_slice(), column)
     }
 }

@@ -53,6 +53,7 @@ impl<S: Store> Store for Counting<S> {
 
     ghost within_room = { Prim.search rules };
 
+    // By hand: Rust has no delegation, so a layer passes on what it does not change.
     fn build(&mut self, table: usize, row: Row, stamp: u64) -> Result<(), BuildRefusal> {
         self.inner.build(table, row, stamp)
     }

@@ -7,6 +7,7 @@ use crate::cell_at;
 use crate::types::{Column, Item};
 use cells::types::Cell;
 
+// By hand: what a query sees is a number always, 0 where there is none (a rule of the project).
 // The number that a column sees; 0 where there is no such column.
 fn number_at(cells: &[[Cell; 6]; 6], column: Column) -> i64
     ensures value { result ≡ number_in (cells_read cells.now column.table column.column) }

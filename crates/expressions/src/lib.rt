@@ -16,6 +16,7 @@ const MOST_ITEMS: usize = 31;
 
 const DEEPEST: u8 = 6;
 
+// By hand: a query always sees a cell, so a column that does not exist reads as 0 (a rule of the project).
 // The cell that is seen in a column; the number 0 where there is no such column.
 pub fn cell_at(cells: &[[Cell; 6]; 6], column: Column) -> Cell
     ensures value { result ≡ cells_read cells.now column.table column.column }

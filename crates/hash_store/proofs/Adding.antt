@@ -70,7 +70,3 @@ all_more ps qs then ends p rows items zeros h =
       subst (λ (l : List Place). AllChained (rows_in l) l ends) (sym items)
           (subst (λ (rs : List Built). AllChained rs (qs ++ p ∷ []) ends) (sym more) (placed (rows_in ps ++ row_in p ∷ []) qs ends p long zeros h)),
     )
-
--- the cells of a row are those in use of its six
-pub held : (xs : List Cell) (n : ℕ) → length xs ≡ 6 → take (min n 6) xs ≡ take n xs
-held xs n six = grind (arith, common_steps)

@@ -39,8 +39,7 @@ pub(crate) fn file_row(places: &mut [Place], ends: &mut [Ends; 384], row: Row)
     ensures rows { rows_in places.new ≡ rows_in places.old }
     ensures filed { (r : Built) → r.cells ≡ cells_of row → AllChained (rows_in places.old ++ r ∷ []) places.new ends.new }
 {
-    let cells = &row.cells[..row.len.min(6)];
-    for (c, x) in cells.iter().enumerate() {
+    for (c, x) in row.as_slice().iter().enumerate() {
         chain_row(places, ends, Chain::holding(c + 1, x));
     }
 }

@@ -3,7 +3,7 @@ use cells::rows::Row;
 use cells::types::Cell;
 
 // A row, its build number, and for each column the next newer row of its bucket, or 0.
-// By hand: a link is 0 for none, since the memory of a place is fixed, and an Option would make each link twice as long.
+// By hand: a link is 0 for none: the field is public, and an Option would make a place longer than its fixed memory.
 #[derive(Clone, Copy)]
 pub struct Place {
     pub row: Row,
@@ -14,10 +14,7 @@ pub struct Place {
 impl Place {
     // What a caller fills its places with before it hands them in.
     pub const EMPTY: Place = Place {
-        row: Row {
-            cells: [Cell::Number(0); 6],
-            len: 0,
-        },
+        row: Row::EMPTY,
         stamp: 0,
         links: [0; 6],
     };

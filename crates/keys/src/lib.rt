@@ -30,10 +30,11 @@ pub trait Key: Copy {
         ensures value { result ≡ within c.now };
 
     // The cell that holds it.
-    // By hand: an index leans on this contract, which a bound `Into<Cell>` would only spell in another way.
+    // By hand: the laws below speak of a function, and of an `Into<Cell>` a clause knows a relation alone.
     fn to_cell(self) -> Cell
         ensures value { result ≡ cell self };
 
+    // By hand: with `Eq` and `Ord` as bounds, these two would still have to be tied by laws to `equals` and `less`, which the laws below are of.
     // Are the two equal?
     fn same(&self, other: &Self) -> bool
         ensures value { result ≡ equals self.now other.now };

@@ -42,7 +42,7 @@ fn put(out: &mut [u8], place: &mut usize, byte: u8) -> Result<(), Full>
     requires { place.old ≤ length out.old }
     ensures { Puts out.old place.old (byte ∷ []) out.new place.new (is_ok result) }
 {
-    // By hand: nothing is known of a slice after `get_mut`, so the proof left open what the buffer then holds.
+    // By hand: the place counts what was written of a line that may not fit; of a slice after `get_mut` nothing is known.
     if *place >= out.len() {
         return Err(Full {});
     }
@@ -51,7 +51,7 @@ fn put(out: &mut [u8], place: &mut usize, byte: u8) -> Result<(), Full>
     Ok(())
 }
 
-// By hand: the buffer and the place are two variables of the caller's, so a struct of both would be taken apart again, and is no plainer.
+// By hand: a guard holds the place alone, and the buffer stays the caller's, so that what was written of a line is there when it does not fit.
 fn put_all(out: &mut [u8], place: &mut usize, bytes: &[u8]) -> Result<(), Full>
     requires { place.old ≤ length out.old }
     ensures { Puts out.old place.old bytes.now out.new place.new (is_ok result) }

@@ -85,7 +85,7 @@ fn run(rt: &HostRuntime) -> Result<(), Fault> {
     draws::show(rt, 1)
 }
 
-// What a cache remembers, the store below is not asked.
+// Answers the day once more through each kind of store, without a cache and with one: what a cache remembers, the store below is not asked.
 fn show_stores(rt: &HostRuntime, day: Answered<'_>) -> Result<(), Fault> {
     let heap = rt.alloc();
     let hash = |_| hash_store::index::TableIndex::with_room(heap, PLACES);

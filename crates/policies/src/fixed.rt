@@ -10,6 +10,7 @@ use crate::{News, Policy};
 #[derive(Clone, Copy, Debug, PartialEq, Eq)]
 pub struct Fixed {
     // the list's modules, then 14, which is no module, up to the end
+    // By hand: the list is held in place, and its places are full of numbers from the beginning (fixed memory).
     order: [u8; 14],
 }
 

@@ -44,7 +44,7 @@ impl Lottery {
         (0..14).map(|m| self.share(members, m)).sum()
     }
 
-    // By hand: a chain would carry the running sum in a closure that changes it, and be no plainer.
+    // By hand: a chain would carry the running sum in a closure that changes it, or sum the weights below each module again.
     fn drawn(&self, members: &[bool; 14], draw: u32) -> u8
         ensures { result ≡ drawn self.now.tickets members.now draw }
     {
@@ -95,7 +95,7 @@ impl Policy for Lottery {
     }
 
     fn told(&mut self, news: News, which: u8) {
-        // By hand: with `get_mut` the goal what the tickets are at the return, `returns-after-news`, stays open.
+        // By hand: with `get_mut` the proof left open what the tickets are at the return (`returns-after-news`).
         let at = usize::from(which);
         if at < 14 {
             let n = self.tickets[at];

@@ -13,7 +13,7 @@ use entry::Entry;
 use keys::Key;
 
 // Does a come before b, or share its place?
-// By hand: a derived order of entries would rest on an `Ord` of the keys, and keys are compared by the contracts of `Key`.
+// By hand: a derived order would compare the keys by an `Ord`, of which the laws of `Key` say nothing.
 fn at_or_before<K: Key>(a: &Entry<K>, b: &Entry<K>) -> bool
     ensures value { result ≡ at_or_before K.less K.equals a.now b.now }
 {

@@ -63,7 +63,3 @@ module _ (xs : List Cell) (number : ℕ) (a : Columns) where
     where
       past : (c : ℕ) → i ≤ c → numbered xs (suc c) ≡ None
       past c ge = numbered_past xs (suc c) (omega arith)
-
--- the cells of a row are those in use of its six
-pub held : (xs : List Cell) (n : ℕ) → length xs ≡ 6 → take (min n 6) xs ≡ take n xs
-held xs n six = grind (arith, common_steps)

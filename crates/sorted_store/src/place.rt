@@ -13,10 +13,7 @@ pub struct Place {
 impl Place {
     // What a caller fills its places with before it hands them in.
     pub const EMPTY: Place = Place {
-        row: Row {
-            cells: [Cell::Number(0); 6],
-            len: 0,
-        },
+        row: Row::EMPTY,
         stamp: 0,
     };
 

@@ -38,6 +38,7 @@ pub fn read_code(s: &[u8]) -> Option<Code>
     Cell::Code(code).is_lawful().then_some(code)
 }
 
+// By hand: bytes are read for a kind that is wanted, and a `TryFrom` has no place for that.
 // The cell of this kind that the bytes spell, or else the one of the other kind.
 pub fn read(kind: Kind, s: &[u8]) -> Option<Cell>
     ensures value { Exactly result (Wanted kind s.now) }

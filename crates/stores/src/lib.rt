@@ -41,6 +41,7 @@ pub struct Question {
 pub trait Store {
     ghost tables: { Self → List Table };
 
+    // By hand: a caller has a table, a row and its number from three places, so a struct of them would be made for the call alone.
     // Adds a row at the end of a table. Refused, with nothing changed, exactly when the table holds its capacity.
     fn build(&mut self, table: usize, row: Row, stamp: u64) -> Result<(), BuildRefusal>
         ensures after { tables self.new ≡ built (tables self.old) table row stamp }
@@ -50,6 +51,7 @@ pub trait Store {
     fn count(&self, table: usize) -> usize
         ensures value { result ≡ count_at (tables self.now) table };
 
+    // By hand: a table, a row and a column are chosen anew for each cell, so a struct of them would be made for the call alone.
     // A row's cell in a column, both counted from 1.
     fn cell(&self, table: usize, row: usize, column: usize) -> Option<Cell>
         ensures value { result ≡ cell_at (tables self.now) table row column };
@@ -58,6 +60,7 @@ pub trait Store {
     fn stamp(&self, table: usize, row: usize) -> Option<u64>
         ensures value { result ≡ stamp_at (tables self.now) table row };
 
+    // By hand: the table is no part of a question, since an index of one table is asked the same.
     // The least row above `after` whose cell in the column equals the key.
     fn next(&mut self, table: usize, question: Question) -> Option<usize>
         ensures same { tables self.new ≡ tables self.old }

@@ -5,7 +5,6 @@ use expressions::types::{Column, Item};
 use faults::Fault;
 use query::drafts::Draft;
 use query::types::{DraftError, Join, Refusal, Test};
-use std::alloc::Global;
 
 const NUMBER: Column = Column {
     table: 0,
@@ -40,11 +39,11 @@ fn refusal_of(answer: Result<(), DraftError>) -> Result<(), Refusal> {
     }
 }
 
-pub(crate) fn show_tables(rt: &HostRuntime, heap: Global) -> Result<(), Fault> {
+pub(crate) fn show_tables(rt: &HostRuntime) -> Result<(), Fault> {
     let heading = pair()?;
-    let mut full = star(heap, 6)?;
+    let mut full = star(rt.alloc(), 6)?;
     say(rt, "a seventh table", full.add_table(heading, NUMBER, 1))?;
-    let mut draft = star(heap, 1)?;
+    let mut draft = star(rt.alloc(), 1)?;
     say(
         rt,
         "a new table joined by a column that it lacks",
@@ -69,8 +68,8 @@ fn fill_joins(draft: &mut Draft) -> Result<(), Fault> {
     Ok(())
 }
 
-pub(crate) fn show_joins(rt: &HostRuntime, heap: Global) -> Result<(), Fault> {
-    let mut draft = star(heap, 2)?;
+pub(crate) fn show_joins(rt: &HostRuntime) -> Result<(), Fault> {
+    let mut draft = star(rt.alloc(), 2)?;
     say(
         rt,
         "a join to a table that there is not",
@@ -100,8 +99,8 @@ fn fill_filters(draft: &mut Draft) {
     }
 }
 
-pub(crate) fn show_filters(rt: &HostRuntime, heap: Global) -> Result<(), Fault> {
-    let mut draft = star(heap, 1)?;
+pub(crate) fn show_filters(rt: &HostRuntime) -> Result<(), Fault> {
+    let mut draft = star(rt.alloc(), 1)?;
     say(
         rt,
         "a sum that lacks its second part",
@@ -127,8 +126,8 @@ fn fill_shown(draft: &mut Draft) -> Result<(), Fault> {
     Ok(())
 }
 
-pub(crate) fn show_shown(rt: &HostRuntime, heap: Global) -> Result<(), Fault> {
-    let mut draft = star(heap, 1)?;
+pub(crate) fn show_shown(rt: &HostRuntime) -> Result<(), Fault> {
+    let mut draft = star(rt.alloc(), 1)?;
     say(
         rt,
         "a shown number out of range",
@@ -147,8 +146,8 @@ pub(crate) fn show_shown(rt: &HostRuntime, heap: Global) -> Result<(), Fault> {
     )
 }
 
-pub(crate) fn show_rows(rt: &HostRuntime, heap: Global) -> Result<(), Fault> {
-    let draft = star(heap, 1)?;
+pub(crate) fn show_rows(rt: &HostRuntime) -> Result<(), Fault> {
+    let draft = star(rt.alloc(), 1)?;
     let five = Cell::Number(5);
     say(
         rt,

@@ -52,6 +52,7 @@ impl<S: Store> Store for Cached<S> {
         Ok(())
     }
 
+    // By hand: Rust has no delegation, so a layer passes on what it does not change.
     fn count(&self, table: usize) -> usize {
         self.inner.count(table)
     }

@@ -65,6 +65,7 @@ impl Index for TableIndex {
         Ok(())
     }
 
+    // By hand: the other kind of index answers these three alike; a trait of lists of places would be longer than their three lines.
     fn count(&self) -> usize {
         self.places.len()
     }

@@ -37,7 +37,7 @@ impl TableIndex {
         ensures value { result.found ≡ next_after (matches chain.column (K.cell key)) after (table_of self.now).rows }
         ensures cost { result.visited ≡ visits (table_of self.now).rows chain.column (K.cell key) after }
     {
-        // By hand: a chain over the links is no plainer, since it has to say how many it passed when it finds a row.
+        // By hand: a chain over the links is no plainer, since it has to say how many it passed, found or not.
         let mut at = self.start(chain, after);
         let mut visited = 0;
         while let Some(p) = numbered(&self.places, at) {

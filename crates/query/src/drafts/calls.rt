@@ -51,6 +51,7 @@ impl Draft {
         Ok(())
     }
 
+    // By hand: `to` and `own` are no join yet, since the table that `own` is of has no number before it is added.
     // One more table, whose column `own` equals the column `to` of an earlier one.
     pub fn add_table(&mut self, heading: Heading, to: Column, own: usize) -> Result<(), Refusal>
         ensures answer { answered refusal_number result ≡ first_no (table_questions (query_of self.old) (columns heading) to own) }

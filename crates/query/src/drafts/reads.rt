@@ -51,6 +51,7 @@ impl Draft {
         self.shown.as_slice()
     }
 
+    // By hand: a caller has cells and chooses a table for them, so a struct of both would be made for the call alone.
     // May these cells be a row of this table?
     pub fn accepts(&self, table: usize, cells: &[Cell]) -> Result<(), RowRefusal>
         ensures answer { answered row_refusal_number result ≡ first_no (row_questions (query_of self.now) table cells.now) }

@@ -13,7 +13,7 @@ use stores::{BuildRefusal, Question, Store};
 
 impl<T: Index> SixTables<T> {
     // The store of these tables, 0 to 5.
-    // By hand: tried one parameter `[T; 6]`, and a caller over any index was left to prove that six of it are below 2 ^ 63 bytes.
+    // By hand: six parameters for six fields, for the reason that stands at `SixTables`.
     pub fn of(t0: T, t1: T, t2: T, t3: T, t4: T, t5: T) -> SixTables<T>
         ensures value { tables_of T.Index.table result ≡ T.Index.table t0 ∷ T.Index.table t1 ∷ T.Index.table t2 ∷ T.Index.table t3 ∷ T.Index.table t4 ∷ T.Index.table t5 ∷ [] }
     {

@@ -45,8 +45,7 @@ impl Columns {
         ensures after { (c : ℕ) → column_in self.new c ≡ with_cell (numbered (cells_of row) (suc c)) number (column_in self.old c) }
         ensures filled { (c : ℕ) → slice_index self.new.filled c ≡ counted (numbered (cells_of row) (suc c)) (slice_index self.old.filled c) }
     {
-        let cells = &row.cells[..row.len.min(6)];
-        for (c, key) in cells.iter().enumerate() {
+        for (c, key) in row.as_slice().iter().enumerate() {
             let entry = Entry {
                 key: *key,
                 row: number,

@@ -5,7 +5,7 @@ use Rattle.stores.specs.Tables.{Built}
 use Rattle.cells.specs.Rows.{cells_of}
 use Rattle.hash_store.specs.Buckets.{in_bucket}
 use Rattle.hash_store.specs.Chains.{rows_in, Chained}
-use Rattle.hash_store.proofs.Adding.{held, filed_more, filed_all}
+use Rattle.hash_store.proofs.Adding.{filed_more, filed_all}
 use Rattle.hash_store.proofs.adds.file_row.Goals as goal
 
 pub loop-c-init : goal.loop-c-init
@@ -25,12 +25,12 @@ pub loop-c-preserved : goal.loop-c-preserved
 loop-c-preserved c =
     let row = c.args.row in
     let i = c.loop-c.c in
-    let cells : length row.cells ≡ 6 = search rules in
-    let same : take c.min.result row.cells ≡ cells_of row = ap (λ m. take m row.cells) c.min.ensures ∙ held row.cells row.len cells in
+    let cells = c.as_slice-x-items.result.now in
+    let same : cells ≡ cells_of row = c.as_slice-x-items.ensures.value in
     let e = c.chain_row.ensures in
     let column = c.holding.ensures.column in
     filed_more c.args.places.now (cells_of row) c.loop-c.places c.chain_row.new.places c.loop-c.ends c.chain_row.new.ends i _
-    (ap (numbered (cells_of row)) (add-one i) ∙ ap (λ l. slice_get l i) (sym same) ∙ slice_get-get_or (take c.min.result row.cells) i _ c.loop-c-test.true)
+    (ap (numbered (cells_of row)) (add-one i) ∙ ap (λ l. slice_get l i) (sym same) ∙ slice_get-get_or cells i _ c.loop-c-test.true)
     c.loop-c.invariant e.rows
     (λ r here. subst (Chained (rows_in c.loop-c.places ++ r ∷ []) c.chain_row.new.places c.chain_row.new.ends) column
     (e.filed r ((λ k. in_bucket (column k) (c.holding.ensures.bucket k) r) ∙ here)))
@@ -38,7 +38,5 @@ loop-c-preserved c =
 
 pub returns-clause-filed : goal.returns-clause-filed
 returns-clause-filed c =
-    let row = c.args.row in
-    let cells : length row.cells ≡ 6 = search rules in
-    let end : length (cells_of row) ≤ c.loop-c.c = subst (λ l. length l ≤ c.loop-c.c) (ap (λ m. take m row.cells) c.min.ensures ∙ held row.cells row.len cells) c.loop-c-test.false in
-    filed_all c.args.places.now (cells_of row) c.loop-c.places c.loop-c.ends c.loop-c.c end c.loop-c.invariant
+    let end : length (cells_of c.args.row) ≤ c.loop-c.c = subst (λ l. length l ≤ c.loop-c.c) c.as_slice-x-items.ensures.value c.loop-c-test.false in
+    filed_all c.args.places.now (cells_of c.args.row) c.loop-c.places c.loop-c.ends c.loop-c.c end c.loop-c.invariant
