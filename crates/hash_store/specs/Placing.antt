@@ -1,4 +1,4 @@
--- A new row's number, written into heads, tails and links: what a column's chains then are, and those of the others.
+-- A new row's number, written into the ends of chains and into links: what a column's chains then are, and those of the others.
 use Rattle.std.specs.Prelude.{◌≡◌, ℕ, suc, ◌+◌, ◌-◌, ◌<◌, ◌≤◌, true, false, List, [], ◌∷◌, ◌++◌, length, get_or, set, ◌≢◌, slice_index, slice_index_or, slice_set, refl}
 use Rattle.std.proofs.Common.{sym, ap, subst, ◌∙◌, ⊎_elim, arith}
 use Rattle.std.proofs.lemmas.List.{get_or-set_same, get_or-set_other, get_or_past, set-get_or, map-set, get_or-map}
