@@ -1,4 +1,4 @@
 pub mod Granted
-pub mod Keeps
+pub mod Grown
 pub mod Kept
 pub mod Widened

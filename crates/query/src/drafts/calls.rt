@@ -2,7 +2,6 @@
 ghost use Rattle.std.specs.Prelude.{◌≡◌, [], ◌∷◌, is_ok, IfOk, if◌then◌else◌};
 ghost use Rattle.basis.specs.Questions.{first_no, answered};
 ghost use Rattle.cells.specs.Headings.{columns};
-ghost use Rattle.query.specs.Drafts.{query_of};
 ghost use Rattle.query.specs.Queries.{Query};
 ghost use Rattle.query.specs.Questions.{refusal_number, table_questions, with_table, join_questions, with_join};
 
@@ -16,7 +15,7 @@ use std::alloc::{AllocError, Global};
 impl Draft {
     // A draft with one table.
     pub fn new(heap: Global, first: Heading) -> Result<Draft, AllocError>
-        ensures value { IfOk result (λ d. query_of d ≡ record { headings = columns first ∷ []; joins = []; filters = []; shown = [] }) }
+        ensures value { IfOk result (λ d. d ≡ record { headings = columns first ∷ []; joins = []; filters = []; shown = [] }) }
     {
         let mut headings = Vec::with_capacity(heap, 6)?;
         let joins = Vec::with_capacity(heap, 10)?;
@@ -34,7 +33,7 @@ impl Draft {
 
     // Asks the questions of a new table.
     fn ask_table(&self, heading: &Heading, to: Column, own: usize) -> Result<(), Refusal>
-        ensures answer { answered refusal_number result ≡ first_no (table_questions (query_of self.now) (columns heading.now) to own) }
+        ensures answer { answered refusal_number result ≡ first_no (table_questions self.now (columns heading.now) to own) }
     {
         if self.tables() >= 6 {
             return Err(Refusal::SeventhTable);
@@ -54,8 +53,8 @@ impl Draft {
     // By hand: `to` and `own` are no join yet, since the table that `own` is of has no number before it is added.
     // One more table, whose column `own` equals the column `to` of an earlier one.
     pub fn add_table(&mut self, heading: Heading, to: Column, own: usize) -> Result<(), Refusal>
-        ensures answer { answered refusal_number result ≡ first_no (table_questions (query_of self.old) (columns heading) to own) }
-        ensures after { query_of self.new ≡ (if is_ok result then with_table (query_of self.old) (columns heading) to own else query_of self.old) }
+        ensures answer { answered refusal_number result ≡ first_no (table_questions self.old (columns heading) to own) }
+        ensures after { self.new ≡ (if is_ok result then with_table self.old (columns heading) to own else self.old) }
     {
         self.ask_table(&heading, to, own)?;
         self.push_table(heading, to, own);
@@ -64,7 +63,7 @@ impl Draft {
 
     // Asks the questions of a further join.
     fn ask_join(&self, join: Join) -> Result<(), Refusal>
-        ensures answer { answered refusal_number result ≡ first_no (join_questions (query_of self.now) join) }
+        ensures answer { answered refusal_number result ≡ first_no (join_questions self.now join) }
     {
         let left = column_kind(&self.headings, join.left);
         let right = column_kind(&self.headings, join.right);
@@ -85,8 +84,8 @@ impl Draft {
 
     // One more join.
     pub fn add_join(&mut self, join: Join) -> Result<(), Refusal>
-        ensures answer { answered refusal_number result ≡ first_no (join_questions (query_of self.old) join) }
-        ensures after { query_of self.new ≡ (if is_ok result then with_join (query_of self.old) join else query_of self.old) }
+        ensures answer { answered refusal_number result ≡ first_no (join_questions self.old join) }
+        ensures after { self.new ≡ (if is_ok result then with_join self.old join else self.old) }
     {
         self.ask_join(join)?;
         self.push_join(join);

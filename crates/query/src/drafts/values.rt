@@ -1,7 +1,6 @@
 // The calls that add filters and shown things. A refused call changes nothing, and so does one that finds no memory.
 ghost use Rattle.std.specs.Prelude.{◌≡◌, is_ok, if◌then◌else◌};
 ghost use Rattle.basis.specs.Questions.{first_no, answered};
-ghost use Rattle.query.specs.Drafts.{query_of};
 ghost use Rattle.query.specs.Queries.{Condition, value, code};
 ghost use Rattle.query.specs.Questions.{refusal_number, Answers, filter_questions, with_filter, show_questions, with_shown};
 
@@ -15,7 +14,7 @@ use expressions::well_formed;
 impl Draft {
     // Asks the questions of a filter.
     fn ask_filter(&self, test: Test, left: &[Item], right: &[Item]) -> Result<(), Refusal>
-        ensures answer { answered refusal_number result ≡ first_no (filter_questions (query_of self.now) (record { test = test; left = left.now; right = right.now })) }
+        ensures answer { answered refusal_number result ≡ first_no (filter_questions self.now (record { test = test; left = left.now; right = right.now })) }
     {
         if self.filters.len() >= 8 {
             return Err(Refusal::NinthFilter);
@@ -36,8 +35,8 @@ impl Draft {
         left: &[Item],
         right: &[Item],
     ) -> Result<(), DraftError>
-        ensures answer { Answers result (first_no (filter_questions (query_of self.old) (record { test = test; left = left.now; right = right.now }))) }
-        ensures after { query_of self.new ≡ (if is_ok result then with_filter (query_of self.old) (record { test = test; left = left.now; right = right.now }) else query_of self.old) }
+        ensures answer { Answers result (first_no (filter_questions self.old (record { test = test; left = left.now; right = right.now }))) }
+        ensures after { self.new ≡ (if is_ok result then with_filter self.old (record { test = test; left = left.now; right = right.now }) else self.old) }
     {
         self.ask_filter(test, left, right)?;
         let left = Vec::from_slice(self.heap, left)?;
@@ -48,7 +47,7 @@ impl Draft {
 
     // Asks the questions of a shown expression.
     fn ask_value(&self, items: &[Item]) -> Result<(), Refusal>
-        ensures answer { answered refusal_number result ≡ first_no (show_questions (query_of self.now) (value items.now)) }
+        ensures answer { answered refusal_number result ≡ first_no (show_questions self.now (value items.now)) }
     {
         if self.shown.len() >= 6 {
             return Err(Refusal::SeventhShown);
@@ -64,8 +63,8 @@ impl Draft {
 
     // One more shown thing: the value of an expression.
     pub fn show_value(&mut self, items: &[Item]) -> Result<(), DraftError>
-        ensures answer { Answers result (first_no (show_questions (query_of self.old) (value items.now))) }
-        ensures after { query_of self.new ≡ (if is_ok result then with_shown (query_of self.old) (value items.now) else query_of self.old) }
+        ensures answer { Answers result (first_no (show_questions self.old (value items.now))) }
+        ensures after { self.new ≡ (if is_ok result then with_shown self.old (value items.now) else self.old) }
     {
         self.ask_value(items)?;
         let items = Vec::from_slice(self.heap, items)?;
@@ -75,7 +74,7 @@ impl Draft {
 
     // Asks the questions of a shown code column.
     fn ask_code(&self, column: Column) -> Result<(), Refusal>
-        ensures answer { answered refusal_number result ≡ first_no (show_questions (query_of self.now) (code column)) }
+        ensures answer { answered refusal_number result ≡ first_no (show_questions self.now (code column)) }
     {
         if self.shown.len() >= 6 {
             return Err(Refusal::SeventhShown);
@@ -88,8 +87,8 @@ impl Draft {
 
     // One more shown thing: the code in a column.
     pub fn show_code(&mut self, column: Column) -> Result<(), DraftError>
-        ensures answer { Answers result (first_no (show_questions (query_of self.old) (code column))) }
-        ensures after { query_of self.new ≡ (if is_ok result then with_shown (query_of self.old) (code column) else query_of self.old) }
+        ensures answer { Answers result (first_no (show_questions self.old (code column))) }
+        ensures after { self.new ≡ (if is_ok result then with_shown self.old (code column) else self.old) }
     {
         self.ask_code(column)?;
         self.push_shown(Shown::Code(column));

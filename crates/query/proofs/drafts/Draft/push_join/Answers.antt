@@ -1,23 +1,19 @@
-use Rattle.std.proofs.Common.{◌&&◌, map, vec_items, vec_len, ap, ◌∙◌}
-use Rattle.std.proofs.lemmas.Bool.{and_from}
-use Rattle.basis.specs.Lists.{all}
-use Rattle.cells.specs.Headings.{columns}
-use Rattle.query.specs.Drafts.{query_of}
-use Rattle.query.specs.Queries.{both_exist, one_kind, two_tables, join_fits, all_linked}
-use Rattle.query.proofs.Granted.{join_granted}
-use Rattle.query.proofs.Kept.{join_joined, all_linked_more}
+use Rattle.std.proofs.Common.{◌≡◌, sym, subst, rules}
+use Rattle.basis.specs.Questions.{first_no}
+use Rattle.query.specs.Drafts.{query_held}
+use Rattle.query.specs.Questions.{join_questions}
+use Rattle.query.proofs.Grown.{lawful_join}
 use Rattle.query.proofs.drafts.Draft.push_join.Goals as goal
 
-pub invariant_of-self-clause-joined : goal.invariant_of-self-clause-joined
-invariant_of-self-clause-joined c =
-    let d = c.args.self.now in
-    let j = c.args.join in
-    let hs = map columns (vec_items d.headings) in
-    let p = join_granted (query_of d) j c.requires in
-    let fits = and_from (both_exist hs j) (two_tables j && one_kind hs j) p.exist (and_from (two_tables j) (one_kind hs j) p.apart p.alike) in
-    ap (all (join_fits hs)) c.push_reserved.ensures.items ∙ join_joined hs (vec_items d.joins) d.joined j fits
-
-pub invariant_of-self-clause-linked : goal.invariant_of-self-clause-linked
-invariant_of-self-clause-linked c =
-    let d = c.args.self.now in
-    ap (all_linked (vec_len d.headings)) c.push_reserved.ensures.items ∙ all_linked_more (vec_items d.joins) c.args.join (vec_len d.headings) d.linked
+pub invariant_of-self : goal.invariant_of-self
+invariant_of-self c =
+    let d = c.self.inside in
+    let q = query_held d in
+    let asked = subst (λ q. 0 ≡ first_no (join_questions q c.args.join)) (sym c.self.view_is) c.requires in
+    record {
+      tables = search rules;
+      joins = search rules;
+      filters = search rules;
+      shown = search rules;
+      lawful = rw c.push_reserved.ensures.items (lawful_join q c.args.join c.self.invariant.lawful asked);
+    }
