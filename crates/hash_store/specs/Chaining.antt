@@ -28,8 +28,8 @@ module _ (rows : List Built) (ps : List Place) (ends : List Ends) where
 no_end : (column b : ℕ) → IsColumn column → b < 64 → get_or (replicate 384 no_ends) (slot column b) no_ends ≡ no_ends
 no_end column b is small = get_or-replicate 384 _ no_ends no_ends (slot_within column b is.1 is.0 small)
 
-pub chained_empty : AllChained [] [] (replicate 384 no_ends)
-chained_empty column is = (
+pub chained_empty : (ps : List Place) → AllChained [] ps (replicate 384 no_ends)
+chained_empty ps column is = (
   λ b small. ap (λ (e : Ends). e.head) (no_end column b is small),
   λ b i lt h. absurd (let z : ⊥ = omega arith in z),
   λ b small. let e = ap (λ (e : Ends). e.tail) (no_end column b is small) in
