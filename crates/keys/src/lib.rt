@@ -34,7 +34,7 @@ pub trait Key: Copy {
     fn to_cell(self) -> Cell
         ensures value { result ≡ cell self };
 
-    // By hand: with `Eq` and `Ord` as bounds, these two would still have to be tied by laws to `equals` and `less`, which the laws below are of.
+    // By hand: with `Eq` and `Ord` as bounds, further laws would have to tie `==` and `<` to `equals` and `less`.
     // Are the two equal?
     fn same(&self, other: &Self) -> bool
         ensures value { result ≡ equals self.now other.now };

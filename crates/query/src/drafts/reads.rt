@@ -14,6 +14,7 @@ use cells::types::Cell;
 
 impl Draft {
     // How many tables. Its law is what every draft keeps to.
+    // By hand: of a type seen by a `Model` callers know the value alone, so a reader of what they index by says that it is lawful.
     pub fn tables(&self) -> usize
         ensures value { result ≡ length self.now.headings }
         ensures law { Lawful self.now }
