@@ -19,6 +19,7 @@ fn number_at(cells: &[[Cell; 6]; 6], column: Column) -> i64
 }
 
 // The value of the expression that the items begin with, its operators nested at most `deep` deep, and the items behind it.
+// By hand: the items fall at each call and the cells stay, so a struct of both would be made for each call.
 #[cycle(eval_eval_two)]
 pub(crate) fn eval<'a>(
     items: &'a [Item],
