@@ -10,7 +10,7 @@ use std::error::Error;
 use std::fmt;
 use stores::BuildRefusal;
 
-// By hand: a derived From has no contract, so each `?` would need a map_err that names the refusal, which is no plainer.
+// By hand: the kit's derive writes a `From` with no contract, and a clause names the refusal that each of these gives.
 impl From<RowRefusal> for Refusal {
     ghost from_gives = { λ why refusal. refusal ≡ Row why };
 

@@ -21,7 +21,7 @@ impl Place {
 }
 
 // The oldest row of a bucket and the newest, or 0.
-// By hand: 0 is for none, as in a link.
+// By hand: 0 is for none, as in the links that both are written to; an Option would double the 384 ends (fixed memory).
 #[derive(Clone, Copy)]
 pub(crate) struct Ends {
     pub head: u16,

@@ -51,7 +51,7 @@ fn put(out: &mut [u8], place: &mut usize, byte: u8) -> Result<(), Full>
     Ok(())
 }
 
-// By hand: a guard holds the place alone, and the buffer stays the caller's, so that what was written of a line is there when it does not fit.
+// By hand: a struct of the two borrows would serve one call of two private functions, and its fact would still be asked by write_line.
 fn put_all(out: &mut [u8], place: &mut usize, bytes: &[u8]) -> Result<(), Full>
     requires { place.old ≤ length out.old }
     ensures { Puts out.old place.old bytes.now out.new place.new (is_ok result) }

@@ -15,7 +15,7 @@ use std::alloc::Global;
 use std::io::Write;
 
 // Prints what was tried, and the number that it was refused with; 0 if it was granted.
-// By hand: 0 is what is printed for a granted call.
+// By hand: the program prints 0 for a granted call, and what it prints may not change (a rule of the project).
 fn say<E>(rt: &HostRuntime, what: &str, answer: Result<(), E>) -> Result<(), Fault>
 where
     u8: From<E>,
