@@ -1,4 +1,5 @@
 mod Codes
+mod Numerals
 mod Signs
 pub mod Texts
 mod Wants

@@ -6,6 +6,7 @@ ghost use Rattle.basis.specs.Reading.{Exactly};
 ghost use Rattle.cells.specs.Cells.{kind_of, lawful};
 ghost use Rattle.spelling.specs.Spelling.{spelling, Wanted, OneSpelling};
 
+mod naturals;
 mod reads;
 mod text;
 

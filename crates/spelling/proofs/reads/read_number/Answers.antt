@@ -1,39 +1,61 @@
-use Rattle.std.proofs.Common.{◌≡◌, ℤ, Some, None, sym, ap, ◌∙◌, subst, w64, to_z, of_z, rules}
-use Rattle.std.proofs.lemmas.Int.{to_z-of_z}
-use Rattle.std.specs.Result.{result_ok}
-use Rattle.std.specs.Str.{IsUtf8}
+use Rattle.std.proofs.Common.{◌≡◌, ℕ, ◌-◌, ◌<◌, List, ◌∷◌, length, get_or, take, drop, pos, negsuc, ◌-ℤ◌, Some, None, MatchOption, sym, refl, ap, ◌∙◌, subst, arith, w64, to_z, of_z, rules}
+use Rattle.std.proofs.lemmas.Int.{ints}
+use Rattle.std.proofs.lemmas.Slice.{first_rest}
 use Rattle.basis.specs.Reading.{Exactly}
-use Rattle.basis.proofs.Exact.{exactly_if, exactly_none}
-use Rattle.spelling.proofs.Signs.{SpellsNumber, lawful_small, number_text, number_parsed}
+use Rattle.basis.proofs.Exact.{exactly_some, exactly_none, none_of}
+use Rattle.spelling.proofs.Numerals.{SpellsNatural, spells_same}
+use Rattle.spelling.proofs.Signs.{SpellsNumber, number_same, minus_some, minus_none, plain}
 use Rattle.spelling.proofs.reads.read_number.Goals as goal
+use Rattle.spelling.proofs.reads.read_number.Goals.{in_default-via-then-s-lt1, in_default-via-else-s-lt1+in_default-1}
 
-none_some : (z : ℤ) → None ≡ Some z → ⊥
-none_some z e = cc
+minus : (s : List ℕ) → 0 < length s → get_or s 0 0 ≡ 45 → s ≡ 45 ∷ take (length s - 1) (drop 1 s)
+minus s some e = first_rest s 0 some ∙ ap (λ b. b ∷ take (length s - 1) (drop 1 s)) e
 
-some_same : (y z : ℤ) → Some y ≡ Some z → y ≡ z
-some_same y z e = cc
-
-pub returns-in_err-ok : goal.returns-in_err-ok
-returns-in_err-ok c =
+pub returns-in_err-n-in-45 : goal.returns-in_err-n-in-45
+returns-in_err-n-in-45 c =
     let s = c.args.s.now in
-    let bad : IsUtf8 s → ⊥ = search rules in
-    record { value = subst (λ r. Exactly r (SpellsNumber s)) (sym c.from_residual.ensures) (exactly_none (SpellsNumber s) (λ z p. bad (number_text s z p))) }
-
-pub returns-in_err-z : goal.returns-in_err-z
-returns-in_err-z c =
-    let s = c.args.s.now in
-    let text : c.in_ok-ok.field-0.now ≡ s = search rules in
-    let parsed = number_parsed s c.parse.result (rw text at c.parse.ensures.value.0) in
-    record { value = subst (λ r. Exactly r (SpellsNumber s)) (sym c.from_residual-in_err-z.ensures) (exactly_none (SpellsNumber s) (λ z p. none_some z (sym c.in_err-z.was ∙ c.ok-2.ensures.value ∙ ap result_ok (parsed z p)))) }
-
-pub returns : goal.returns
-returns c =
-    let s = c.args.s.now in
-    let text : c.in_ok-ok.field-0.now ≡ s = search rules in
-    let parsed = number_parsed s c.parse.result (rw text at c.parse.ensures.value.0) in
+    let t = take (length s - 1) (drop 1 s) in
+    let first : get_or s 0 0 ≡ 45 = search rules in
+    let none : Exactly None (SpellsNatural t) = subst (λ r. Exactly r (SpellsNatural t)) c.in_err-n-in-45.was c.read_natural.ensures.value in
     record {
-      value = subst (λ r. Exactly r (SpellsNumber s)) (sym c.then_some.ensures)
-          (exactly_if (SpellsNumber s) _ c.spells_number.result c.spells_number.ensures.value (λ z p.
-          let same = some_same c.in_ok-z.z z (sym c.in_ok-z.was ∙ c.ok-2.ensures.value ∙ ap result_ok (parsed z p)) in
-          ap (λ y. to_z w64 (of_z w64 y)) same ∙ to_z-of_z w64 z (record { sfits = lawful_small s z p })));
+      value = subst (λ r. Exactly r (SpellsNumber s)) (sym c.from_residual.ensures)
+          (exactly_none (SpellsNumber s) (minus_none s t (minus s c.in-45.len_at_least first) (λ m q more. none_of (SpellsNatural t) none m q)));
     }
+
+pub overflow_cast-result : goal.overflow_cast-result
+overflow_cast-result c = omega (arith, ints, ((c.in_ok-n-in-45.ensures.value c.in_ok-n-in-45.n).0 refl).0)
+
+pub overflow_sub-result : goal.overflow_sub-result
+overflow_sub-result c = omega (arith, ints, ((c.in_ok-n-in-45.ensures.value c.in_ok-n-in-45.n).0 refl).0)
+
+pub returns-in-0 : goal.returns-in-0
+returns-in-0 c =
+    let s = c.args.s.now in
+    let t = take (length s - 1) (drop 1 s) in
+    let first : get_or s 0 0 ≡ 45 = search rules in
+    let p : SpellsNatural t c.in_ok-n-in-45.n = (c.in_ok-n-in-45.ensures.value c.in_ok-n-in-45.n).0 refl in
+    record { value = exactly_none (SpellsNumber s) (minus_none s t (minus s c.in-45.len_at_least first) (λ m q more. omega (arith, c.in-0.is, spells_same t c.in_ok-n-in-45.n m p q))) }
+
+pub returns-in_default-2 : goal.returns-in_default-2
+returns-in_default-2 c =
+    let s = c.args.s.now in
+    let n = c.in_ok-n-in-45.n in
+    let t = take (length s - 1) (drop 1 s) in
+    let first : get_or s 0 0 ≡ 45 = search rules in
+    let p : SpellsNatural t n = (c.in_ok-n-in-45.ensures.value n).0 refl in
+    let some : 0 < n = search rules in
+    let is : to_z w64 (of_z w64 (pos 0 -ℤ to_z w64 n)) ≡ negsuc (n - 1) = omega (arith, ints, p.0, some) in
+    let q : SpellsNumber s (to_z w64 (of_z w64 (pos 0 -ℤ to_z w64 n))) =
+    subst (SpellsNumber s) (sym is) (minus_some s t n (minus s c.in-45.len_at_least first) p some) in
+    record { value = exactly_some (SpellsNumber s) _ q (λ z r. number_same s _ z q r) }
+
+pub returns-in_default : goal.returns-in_default
+returns-in_default c =
+    let s = c.args.s.now in
+    let o = c.read_natural-in_default.result in
+    let m : MatchOption o (c.map.result ≡ None) (λ n. c.map.result ≡ Some (to_z w64 n)) = search rules in
+    let other : 0 < length s → get_or s 0 0 ≡ 45 → ⊥ = λ some e. elim c.in_default.branch [
+      | in_default-via-then-s-lt1 w ↦ search rules
+      | in_default-via-else-s-lt1+in_default-1 w ↦ search rules
+    ] in
+    record { value = plain s other o c.map.result c.read_natural-in_default.ensures.value m }
