@@ -19,9 +19,13 @@ pub(crate) fn recall(memory: &[Option<Remembered>], asked: &Asked) -> Option<Opt
     place.map(|e| e.answer)
 }
 
-// The memory after a build in the table: the places that remember none for it are emptied.
-pub(crate) fn forget(memory: [Option<Remembered>; 32], table: usize) -> [Option<Remembered>; 32]
-    ensures value { result ≡ map (kept table) memory }
+// Empties the places that remember none for the table.
+pub(crate) fn forget(memory: &mut [Option<Remembered>], table: usize)
+    ensures after { memory.new ≡ map (kept table) memory.old }
 {
-    memory.map(|place| place.filter(|e| e.asked.table != table || e.answer.is_some()))
+    for place in memory.iter_mut() {
+        if place.is_some_and(|e| e.asked.table == table && e.answer.is_none()) {
+            *place = None;
+        }
+    }
 }

@@ -48,7 +48,7 @@ impl<S: Store> Store for Cached<S> {
         ensures turn { self.new.turn ≡ self.old.turn }
     {
         self.inner.build(table, row, stamp)?;
-        self.memory = forget(self.memory, table);
+        forget(&mut self.memory, table);
         Ok(())
     }
 

@@ -8,7 +8,7 @@ use Rattle.caching.proofs.cache.calls.CachedStore.build.Goals as goal
 pub invariant_of-self-2-clause-right : goal.invariant_of-self-2-clause-right
 invariant_of-self-2-clause-right g c =
     let s = c.args.self.now in
-    let memory = c.forget-self.result in
+    let memory = c.forget.new.memory in
     let new = built (g.S.Store.tables s.inner) c.args.table c.args.row c.args.stamp in
     let forgot : memory ≡ map (kept c.args.table) s.memory = search rules in
     subst (λ (ts : List Table). AllByRecursion (Right ts) memory) (sym c.build.ensures.after)
