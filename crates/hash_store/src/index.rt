@@ -1,5 +1,7 @@
 // One table's rows and the index over them.
-ghost use Rattle.std.specs.Prelude.{◌≤◌, vec_len, vec_capacity};
+ghost use Rattle.std.specs.Prelude.{◌≡◌, ◌≤◌, vec_len, vec_capacity};
+ghost use Rattle.std.specs.Option.{option_copied};
+ghost use Rattle.basis.specs.Lists.{numbered};
 ghost use Rattle.hash_store.specs.Chains.{rows_in, AllChained, AllNarrow};
 
 use crate::place::{Ends, Place};
@@ -18,4 +20,13 @@ pub struct TableIndex {
     ghost within: { (vec_len places ≤ room) × (room ≤ vec_capacity places) × (room ≤ 1024) },
     ghost chained: { ∥ AllChained (rows_in places.items) places.items ends ∥₁ },
     ghost narrow: { AllNarrow (rows_in places.items) },
+}
+
+impl TableIndex {
+    // The place with a number, counted from 1, if there is one. It is lent, since it is long to copy for one of its words.
+    fn place(&self, number: usize) -> Option<&Place>
+        ensures value { option_copied result ≡ numbered self.now.places.items number }
+    {
+        self.places.get(number.checked_sub(1)?)
+    }
 }

@@ -12,7 +12,7 @@ use super::TableIndex;
 use crate::adds::file_row;
 use crate::chain::Chain;
 use crate::place::{Ends, Place};
-use basis::{Probed, numbered};
+use basis::Probed;
 use cells::rows::Row;
 use cells::types::Cell;
 use six_tables::Index;
@@ -71,11 +71,11 @@ impl Index for TableIndex {
     }
 
     fn cell(&self, row: usize, column: usize) -> Option<Cell> {
-        numbered(&self.places, row)?.row.cell(column)
+        self.place(row)?.row.cell(column)
     }
 
     fn stamp(&self, row: usize) -> Option<u64> {
-        Some(numbered(&self.places, row)?.stamp)
+        Some(self.place(row)?.stamp)
     }
 
     fn probe(&self, question: Question) -> Probed<Option<usize>>

@@ -8,7 +8,7 @@ ghost use Rattle.hash_store.specs.Indexes.{table_of};
 use super::TableIndex;
 use crate::chain::Chain;
 use crate::place::Place;
-use basis::{Probed, numbered};
+use basis::Probed;
 use keys::Key;
 
 // Does the place's cell in the column equal the key?
@@ -21,12 +21,12 @@ fn holds<K: Key>(p: &Place, column: usize, key: &K) -> bool
 
 impl TableIndex {
     // The first row that a question looks at, or 0: the link of the row `after`, if that is itself in the chain, else the head.
-    // By hand: an Option would be no plainer, since links are 0 for none, and `numbered` finds nothing at 0.
+    // By hand: an Option would be no plainer, since links are 0 for none, and there is no place 0.
     fn start(&self, chain: Chain, after: usize) -> usize
         ensures value { result ≡ next_filed (table_of self.now).rows chain.column chain.bucket (begins_behind (table_of self.now).rows chain.column chain.bucket after) }
     {
-        match numbered(&self.places, after) {
-            Some(p) if chain.has(&p) => p.links[chain.column - 1] as usize,
+        match self.place(after) {
+            Some(p) if chain.has(p) => p.links[chain.column - 1] as usize,
             _ => self.ends[chain.slot()].head as usize,
         }
     }
@@ -40,9 +40,9 @@ impl TableIndex {
         // By hand: a chain over the links is no plainer, since it has to say how many it passed, found or not.
         let mut at = self.start(chain, after);
         let mut visited = 0;
-        while let Some(p) = numbered(&self.places, at) {
+        while let Some(p) = self.place(at) {
             visited += 1;
-            if at > after && holds(&p, chain.column, &key) {
+            if at > after && holds(p, chain.column, &key) {
                 return Probed {
                     found: Some(at),
                     visited,

@@ -9,7 +9,7 @@ ghost use Rattle.std.proofs.Common.{arith};
 use super::TableIndex;
 use crate::columns::Columns;
 use crate::place::Place;
-use basis::{Probed, numbered};
+use basis::Probed;
 use cells::rows::Row;
 use cells::types::Cell;
 use six_tables::Index;
@@ -70,11 +70,11 @@ impl Index for TableIndex {
 
     #[tactic(auto, using(crate::specs::Indexed::numbered_row))]
     fn cell(&self, row: usize, column: usize) -> Option<Cell> {
-        numbered(&self.places, row)?.row.cell(column)
+        self.place(row)?.row.cell(column)
     }
 
     fn stamp(&self, row: usize) -> Option<u64> {
-        Some(numbered(&self.places, row)?.stamp)
+        Some(self.place(row)?.stamp)
     }
 
     fn probe(&self, question: Question) -> Probed<Option<usize>> {

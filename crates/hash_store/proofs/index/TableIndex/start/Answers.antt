@@ -1,5 +1,5 @@
 use Rattle.std.proofs.Common.{◌≡◌, false, option_map, Option, get_or, vec_items, sym, ap, ◌∙◌}
-use Rattle.basis.specs.Lists.{numbered}
+use Rattle.std.specs.Option.{option_copied}
 use Rattle.hash_store.specs.declared.place.Place.{Place}
 use Rattle.hash_store.specs.Buckets.{kept_in_bucket}
 use Rattle.hash_store.specs.Chains.{no_ends, row_in}
@@ -12,22 +12,21 @@ pub returns-in-Some : goal.returns-in-Some
 returns-in-Some c =
     let x = c.args.self.now in
     let chain = c.args.chain in
-    let read = sym c.in-Some.is ∙ c.numbered.ensures.value ∙ ap (λ ps. numbered ps c.args.after) c.deref.ensures.value in
+    let read = sym c.place.ensures.value ∙ ap option_copied c.in-Some.is in
     record {
-      value = from_link (vec_items x.places) x.ends chain.column chain.bucket (chains x chain.column chain.column_in) c.args.after c.in-Some.p (sym read) (sym c.has.ensures.value ∙ c.if-has.true);
+      value = from_link (vec_items x.places) x.ends chain.column chain.bucket (chains x chain.column chain.column_in) c.args.after c.in-Some.p.now read (sym c.has.ensures.value ∙ c.if-has.true);
     }
 
 pub returns-in_default : goal.returns-in_default
 returns-in_default c =
     let x = c.args.self.now in
     let chain = c.args.chain in
-    let read = c.numbered.ensures.value ∙ ap (λ ps. numbered ps c.args.after) c.deref.ensures.value in
     let kept = λ (o : Option Place). kept_in_bucket chain.column chain.bucket (option_map row_in o) in
-    let out : kept_in_bucket chain.column chain.bucket (option_map row_in c.numbered.result) ≡ false = elim c.in_default.branch [
-      | in_default-via-in-Some+else-has w ↦ ap kept w.in-Some.is ∙ sym w.has.ensures.value ∙ w.if-has.false
-      | in_default-via-in_default w ↦ ap kept w.in_default.is
+    let out : kept_in_bucket chain.column chain.bucket (option_map row_in (option_copied c.place.result)) ≡ false = elim c.in_default.branch [
+      | in_default-via-in-Some+else-has w ↦ ap (λ o. kept (option_copied o)) w.in-Some.is ∙ sym w.has.ensures.value ∙ w.if-has.false
+      | in_default-via-in_default w ↦ ap (λ o. kept (option_copied o)) w.in_default.is
     ] in
     record {
       value = ap (λ k. (get_or x.ends k no_ends).head) c.slot.ensures.value
-          ∙ from_head (vec_items x.places) x.ends chain.column chain.bucket (chains x chain.column chain.column_in) c.args.after chain.small (sym (ap kept read) ∙ out);
+          ∙ from_head (vec_items x.places) x.ends chain.column chain.bucket (chains x chain.column chain.column_in) c.args.after chain.small (sym (ap kept c.place.ensures.value) ∙ out);
     }
