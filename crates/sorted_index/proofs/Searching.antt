@@ -1,7 +1,6 @@
 -- Binary search in a sorted list: a stretch is left, below which all elements lead up to the bound and above which none does.
 use Rattle.std.proofs.Common.{◌≡◌, ℕ, ◌+◌, ◌-◌, ◌/◌, ◌<◌, ◌≤◌, Bool, true, false, List, length, get_or, sym, ap, ◌∙◌, ⊎_elim, arith}
 use Rattle.std.specs.List.{prefix_len}
-use Rattle.std.specs.List.Sorted.{IsPartitionedBy, IsPartitionPoint}
 use Rattle.std.proofs.lemmas.Bool.{cases_eq, cases_Bool, both_ways}
 use Rattle.std.proofs.lemmas.List.{get_or_default}
 use Rattle.std.proofs.lemmas.List.Sums.{prefix_len_is}
@@ -82,15 +81,3 @@ module _ {X : Type 0} (before : X → X → Bool) (bound : X) (xs : List X) wher
       halved = halved_more (length xs) (high - low) (mid - low) looks (omega arith) (omega arith) (omega arith) w.halved;
       cut = cut_down e;
     }
-
-module _ {X : Type 0} (before : X → X → Bool) (bound : X) (xs : List X) where
-  -- what comes before the bound stands before what does not
-  pub partitioned : ((x y z : X) → before x y ≡ true → before y z ≡ true → before x z ≡ true) → sorted before xs ≡ true → IsPartitionedBy (λ y. before y bound) xs
-  partitioned along s i j d le lt h =
-      ⊎_elim
-      (λ (same : i ≡ j). ap (λ k. before (get_or xs k d) bound) same ∙ h)
-      (λ ne. along (get_or xs i d) (get_or xs j d) bound (sorted_at before xs i j d (omega arith) lt s) h)
-      (cases_eq i j)
-
-  pub leads_up : (i : ℕ) → i ≤ length xs → IsPartitionPoint (λ y. before y bound ≡ true) (λ y. before y bound ≡ false) xs i → i ≡ prefix_len (λ y. before y bound) xs
-  leads_up i le p = sym (prefix_len_is (λ y. before y bound) xs i bound le (λ k lt. p.0 k bound (omega arith) lt) (λ lt. p.1 i bound (omega arith) lt))

@@ -66,7 +66,7 @@ pub fn insert<K: Key>(entries: &mut [Entry<K>], entry: Entry<K>)
     let Some((_, others)) = entries.split_last() else {
         return;
     };
-    let at = others.partition_point(|e| at_or_before(e, &entry));
+    let at = seek(others, &entry).found;
     entries[at..].rotate_right(1);
     entries[at] = entry;
 }
