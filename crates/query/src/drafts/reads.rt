@@ -33,6 +33,7 @@ impl Draft {
 
     // The joins, in order.
     pub fn joins(&self) -> &[Join]
+        ensures law { Lawful self.now }
         ensures value { result.now ≡ self.now.joins }
     {
         self.joins.as_slice()
@@ -57,6 +58,7 @@ impl Draft {
     // By hand: a caller has cells and chooses a table for them, so a struct of both would be made for the call alone.
     // May these cells be a row of this table?
     pub fn accepts(&self, table: usize, cells: &[Cell]) -> Result<(), RowRefusal>
+        ensures law { Lawful self.now }
         ensures answer { answered row_refusal_number result ≡ first_no (row_questions self.now table cells.now) }
     {
         let heading = self.headings.get(table).ok_or(RowRefusal::NoSuchTable)?;
