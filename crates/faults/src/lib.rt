@@ -12,7 +12,7 @@ use std::alloc::{AllocError, AllocFailed};
 use std::error::Error;
 use std::{fmt, io};
 
-#[derive(Debug, Drop)]
+#[derive(Drop)]
 pub enum Fault {
     Heading(HeadingRefusal),
     Draft(DraftError),
@@ -80,6 +80,13 @@ impl fmt::Display for Fault {
             Fault::Memory => write!(f, "out of memory"),
             Fault::Io(e) => write!(f, "{e:?}"),
         }
+    }
+}
+
+// By hand: a `main` that answers a fault prints it by `Debug`, and a reader wants the number there, not the names of the cases.
+impl fmt::Debug for Fault {
+    fn fmt<W: fmt::Write>(&self, f: &mut fmt::Formatter<W>) -> fmt::Result {
+        write!(f, "{self}")
     }
 }
 
