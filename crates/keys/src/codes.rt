@@ -48,6 +48,8 @@ impl Key for Code {
         *self == *other
     }
 
+    // Out of line, so that a search by numbers stays small.
+    #[inline(never)]
     fn before(&self, other: &Code) -> bool
         ensures value { result ≡ less_code self.now other.now }
         ensures law { ByText self.now other.now result }

@@ -22,6 +22,7 @@ fn holds<K: Key>(p: &Place, column: usize, key: &K) -> bool
 impl TableIndex {
     // The first row that a question looks at, or 0: the link of the row `after`, if that is itself in the chain, else the head.
     // By hand: an Option would be no plainer, since links are 0 for none, and there is no place 0.
+    #[inline(always)]
     fn start(&self, chain: Chain, after: usize) -> usize
         ensures value { result ≡ next_filed (table_of self.now).rows chain.column chain.bucket (begins_behind (table_of self.now).rows chain.column chain.bucket after) }
     {
